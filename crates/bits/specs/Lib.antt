@@ -1,0 +1,3 @@
+-- Bits of a number, and their laws.
+pub mod Bit
+pub mod Laws

@@ -1,0 +1,6 @@
+-- Loops over numbers as definitions, the laws that a loop's proof cites, and laws of tests.
+pub mod Loops
+pub mod Tests
+pub mod Sought
+pub mod Choices
+pub mod Facts

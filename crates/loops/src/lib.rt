@@ -1,0 +1,1 @@
+// Definitions of loops over numbers, and their laws: nothing runs here.

@@ -1,0 +1,2 @@
+-- Counts that go round.
+pub mod Num
