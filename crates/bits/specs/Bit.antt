@@ -1,5 +1,5 @@
 -- Bits of a number.
-use Prim.Native.Nat.{ℕ, _+_, _/_, _%_, _^_}
+use Prim.Native.Nat.{ℕ, _/_, _%_, _^_}
 use mathlib.Core.Bool.{Bool}
 use lib.Dec.{eqb}
 use lib.Bits.{bitOr}

@@ -1,19 +1,20 @@
 -- Laws of the parts of a table that a start takes.
-use Prim.Native.Nat.{ℕ, _+_, _-_, _<_, _≤_}
+use Prim.Native.Nat.{ℕ, _+_, _-_, _*_, _<_, _≤_}
 use mathlib.Core.Bool.{Bool, true, false, not, _&&_}
 use mathlib.Core.List.{List}
 use mathlib.Core.Path.{_≡_, ap}
 use native.Mathlib.Omega.{arith}
 use lib.Dec.{eqb, ltb, leb}
 use lib.ListN.{getD, length}
-use borrow.Author.Tests.{ltb-true, ltb-false, leb-true, le-leb, lt-leb, le-ltb, eqb-true, eqb-false}
+use borrow.Author.Tests.{eq-eqb, ltb-true, ltb-false, leb-true, le-leb, lt-leb, le-ltb, eqb-true, eqb-false}
 use Rattle.loops.specs.Loops.{all}
 use Rattle.loops.specs.Choices.{either, same-if, and-0, and-1, and-of, and-no, or-by, or-l, or-r, not-both}
 use Rattle.loops.specs.Facts.{all-at, all-of}
 use Rattle.vdisk.specs.Drive.{clustersOf, lastCluster}
+use Rattle.vdisk.specs.Ids.{idDirOf}
 use Rattle.vdisk.specs.Owner.{rises}
 use Rattle.vdisk.specs.OwnerLaws.{rises-lt, rises-le}
-use Rattle.file_table.specs.Table.{inFile, apartAt, startsApart, clustersIn}
+use Rattle.file_table.specs.Table.{samePlace, inFile, apartAt, startsApart, clustersIn}
 
 -- file j ends at or before the next one's start
 abbrev pub endsBy : List ℕ → List ℕ → ℕ → Bool
@@ -83,3 +84,21 @@ module _ (first start n : ℕ) where
       (all-at (λ k. leb first (start + k) && leb (start + k) lastCluster) n 0 (n - 1) e (omega arith) (omega arith)) in
       let z = leb-true (start + (n - 1)) lastCluster q in
       le-leb (start + n) 65002 (omega arith))
+
+-- shown directory and slot as one number, which tells places of 16 bits apart
+unfoldable pub placeKey : ℕ → ℕ → ℕ
+placeKey id slot = idDirOf id * 65536 + slot
+
+pub place-key : (ids slots : List ℕ) (i j : ℕ) → getD slots i 0 < 65536 → getD slots j 0 < 65536
+    → eqb (placeKey (getD ids i 0) (getD slots i 0)) (placeKey (getD ids j 0) (getD slots j 0)) ≡ samePlace ids slots i j
+unfolding placeKey samePlace
+place-key ids slots i j h k =
+    let a = idDirOf (getD ids i 0) in
+    let b = idDirOf (getD ids j 0) in
+    let x = getD slots i 0 in
+    let y = getD slots j 0 in
+    same-if (eqb (a * 65536 + x) (b * 65536 + y)) (eqb a b && eqb x y)
+    (λ e. let q = eqb-true (a * 65536 + x) (b * 65536 + y) e in and-of (eqb a b) (eqb x y) (eq-eqb a b (omega arith)) (eq-eqb x y (omega arith)))
+    (λ e. let q = eqb-true a b (and-0 (eqb a b) (eqb x y) e) in
+    let r = eqb-true x y (and-1 (eqb a b) (eqb x y) e) in
+    eq-eqb (a * 65536 + x) (b * 65536 + y) (omega arith))

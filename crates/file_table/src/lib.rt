@@ -10,7 +10,8 @@ ghost use mathlib.Core.Bool.{true};
 ghost use Prim.Native.Nat.{ℕ, _<_};
 ghost use lib.ListN.{length};
 ghost use Rattle.vdisk.specs.Owner.{rises};
-ghost use Rattle.file_table.specs.Table.{allUnmarked, startsApart, clustersIn, allIn, clustersFit, namesApart, sharesName, placesApart, samePlace, sharesPlace, tableOf, accepts};
+ghost use Rattle.file_table.specs.TableLaws.{placeKey};
+ghost use Rattle.file_table.specs.Table.{allUnmarked, startsApart, clustersIn, allIn, clustersFit, namesApart, sharesName, placesApart, sharesPlace, tableOf, accepts};
 
 // Files of a table at most.
 pub const MAX_VF: usize = 400;
@@ -117,24 +118,22 @@ fn names_apart(ids: &[u16]) -> bool
     true
 }
 
-fn same_place(ids: &[u16], slots: &[u16], i: usize, j: usize) -> bool
-    requires { ⌜ (i < length (now ids)) × (j < length (now ids)) × (length (now ids) ≡ length (now slots)) ⌝ }
-    ensures { λ r. ⌜ r ≡ samePlace (now (ids .entry)) (now (slots .entry)) i j ⌝ }
+// Shown directory and slot as one number.
+fn place_key(id: u16, slot: u16) -> u32
+    ensures { λ r. ⌜ r ≡ placeKey id slot ⌝ }
 {
-    if id_dir(ids[i]) != id_dir(ids[j]) {
-        return false;
-    }
-    slots[i] == slots[j]
+    id_dir(id) as u32 * 65536 + slot as u32
 }
 
 fn shares_place(ids: &[u16], slots: &[u16], j: usize) -> bool
     requires { ⌜ (j < length (now ids)) × (length (now ids) ≡ length (now slots)) ⌝ }
     ensures { λ r. ⌜ r ≡ sharesPlace (now (ids .entry)) (now (slots .entry)) j ⌝ }
 {
+    let key = place_key(ids[j], slots[j]);
     let mut found = false;
     let mut i = 0;
     while i < j {
-        if same_place(ids, slots, i, j) {
+        if place_key(ids[i], slots[i]) == key {
             found = true;
             i += 1;
         } else {
