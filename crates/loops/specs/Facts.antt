@@ -4,8 +4,9 @@ use mathlib.Core.Bool.{Bool, true, false, true≢false, false≢true}
 use mathlib.Core.Path.{_≡_, refl, sym, _∙_, ap}
 use native.Mathlib.Omega.{arith}
 use lib.Dec.{eqb}
+use lib.ListN.{length, getD}
 use borrow.Author.Tests.{eqb-true, eqb-false}
-use Rattle.loops.specs.Loops.{all, some, first, last, scan, fold, Turn, stop, go, next}
+use Rattle.loops.specs.Loops.{all, some, listed, first, last, scan, fold, Turn, stop, go, next}
 use Rattle.loops.specs.Choices.{either, pick-by, picked, or-by, or-l, or-r}
 
 pub all-at : (p : ℕ → Bool) (n i k : ℕ) → all p n i ≡ true → i ≤ k → k < i + n → p k ≡ true
@@ -48,6 +49,30 @@ unfolding first
 first-at p zero i = λ h. absurd (omega arith)
 first-at p (suc n) i =
     pick-by (λ (k : ℕ). k < i + suc n → p k ≡ true) (p i) i (first p n (i + 1)) (λ q h. q) (λ q h. first-at p n (i + 1) (omega arith))
+
+pub first-le : (p : ℕ → Bool) (n i : ℕ) → first p n i ≤ i + n
+unfolding first
+first-le p zero i = omega arith
+first-le p (suc n) i = pick-by (λ (k : ℕ). k ≤ i + suc n) (p i) i (first p n (i + 1)) (λ q. omega arith) (λ q. omega (arith, first-le p n (i + 1)))
+
+-- none before the first is so
+pub first-below : (p : ℕ → Bool) (n i k : ℕ) → i ≤ k → k < first p n i → p k ≡ false
+unfolding first
+first-below p zero i k l = λ h. absurd (omega arith)
+first-below p (suc n) i k l =
+    pick-by (λ (m : ℕ). k < m → p k ≡ false) (p i) i (first p n (i + 1)) (λ q h. absurd (omega arith))
+    (λ q h. either (eqb i k) (λ z. rw (eqb-true i k z) at q) (λ z. let w = eqb-false i k z in first-below p n (i + 1) k (omega arith) h))
+
+pub listed-length : {A : Type 0} (f : ℕ → A) (n i : ℕ) → length (listed f n i) ≡ n
+unfolding listed
+listed-length f zero i = refl
+listed-length f (suc n) i = ap suc (listed-length f n (i + 1))
+
+pub listed-at : {A : Type 0} (f : ℕ → A) (d : A) (n i k : ℕ) → k < n → getD (listed f n i) k d ≡ f (i + k)
+unfolding listed
+listed-at f d zero i k h = absurd (omega arith)
+listed-at f d (suc n) i zero h = let e : i + 0 ≡ i = omega arith in rw e
+listed-at f d (suc n) i (suc k) h = let e : i + suc k ≡ i + 1 + k = omega arith in rw e (listed-at f d n (i + 1) k (omega arith))
 
 -- the last: it is so, nothing after it is, and it is no earlier than any that is
 pub last-le : (p : ℕ → Bool) (n : ℕ) → last p n ≤ n

@@ -4,3 +4,4 @@ pub mod Tests
 pub mod Sought
 pub mod Choices
 pub mod Facts
+pub mod Found

@@ -1,6 +1,7 @@
 -- Loops over the n numbers from i on. A law says what a loop up to m is at i, where i is below m (it takes a turn), and at m.
 use Prim.Native.Nat.{ℕ, zero, suc, _+_, _-_, _<_, _≤_}
 use mathlib.Core.Bool.{Bool, true, false, _||_}
+use mathlib.Core.List.{List, [], _∷_}
 use mathlib.Core.Path.{_≡_, sym, _∙_}
 use native.Mathlib.Omega.{arith}
 
@@ -28,6 +29,11 @@ first p (suc n) i = pick (p i) i (first p n (i + 1))
 unfoldable pub last : (ℕ → Bool) → ℕ → ℕ
 last p zero = 0
 last p (suc n) = pick (p n) (suc n) (last p n)
+
+-- what a function gives at each of them
+unfoldable pub listed : {A : Type 0} → (ℕ → A) → ℕ → ℕ → List A
+listed f zero i = []
+listed f (suc n) i = f i ∷ listed f n (i + 1)
 
 -- how many of them are so
 unfoldable pub count : (ℕ → Bool) → ℕ → ℕ → ℕ

@@ -1,7 +1,7 @@
 // What is read of a sector's bytes.
 ghost use mathlib.Core.Path.{_≡_};
 ghost use Prim.Native.Nat.{ℕ, _+_, _<_};
-ghost use lib.ListN.{length};
+ghost use lib.ListN.{length, replicate};
 ghost use Rattle.sector.specs.Bytes.{word, word32, same, zeros};
 
 // The 16-bit number at `at`, low byte first.
@@ -47,4 +47,27 @@ pub fn is_zero(a: &[u8]) -> bool
         i += 1;
     }
     seen == 0
+}
+
+// The bytes of `from` put into `to`.
+pub fn copy(to: &mut [u8], from: &[u8])
+    requires { ⌜ length (now to) ≡ length (now from) ⌝ }
+    ensures { λ r. ⌜ now (to .exit) ≡ now (from .entry) ⌝ }
+{
+    let mut i = 0;
+    while i < from.len() {
+        to[i] = from[i];
+        i += 1;
+    }
+}
+
+// Every byte of `to` set to `v`.
+pub fn fill(to: &mut [u8], v: u8)
+    ensures { λ r. ⌜ now (to .exit) ≡ replicate (length (now (to .entry))) v ⌝ }
+{
+    let mut i = 0;
+    while i < to.len() {
+        to[i] = v;
+        i += 1;
+    }
 }

@@ -1,0 +1,4 @@
+-- The medium, what is read of it, and the search for a free block.
+pub mod Medium
+pub mod Reads
+pub mod MediumLaws

@@ -1,0 +1,3 @@
+// The medium, what is read of it, and the search for a free block.
+pub mod blocks;
+pub mod reads;

@@ -1,0 +1,3 @@
+-- The host's records in the root.
+pub mod Records
+pub mod RecordLaws
