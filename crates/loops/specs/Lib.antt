@@ -5,3 +5,4 @@ pub mod Sought
 pub mod Choices
 pub mod Facts
 pub mod Found
+pub mod Rows

@@ -87,6 +87,13 @@ pub struct W {
     pub first: u32,
 }
 
+// How a sector was judged: the refusal number, 0 where it was taken; whether that opens the session; the state then.
+pub struct Judged {
+    pub no: u8,
+    pub changed: bool,
+    pub w: W,
+}
+
 // The state as it first stands, with the first session cluster.
 pub fn initial_state(first: u32) -> W
     ensures { λ r. ⌜ r ≡ initial first ⌝ }

@@ -5,16 +5,16 @@ use vdisk::drive::DirKind;
 use vdisk::drive::Place;
 use vdisk::owner::Own;
 
-pub fn text(t: &[u8]) {
+pub(crate) fn text(t: &[u8]) {
     io::write_all(1, t);
 }
 
-pub fn number(n: u64) {
+pub(crate) fn number(n: u64) {
     io::write_all(1, b" ");
     io::print_decimal(1, n);
 }
 
-pub fn line_end() {
+pub(crate) fn line_end() {
     io::write_all(1, b"\n");
 }
 
@@ -159,7 +159,7 @@ fn owners_unsorted() {
     );
 }
 
-pub enum Lookup {
+enum Lookup {
     Nclus,
     Place,
     DirKind,

@@ -146,7 +146,7 @@ fn many() {
     first_rows(&ids, &slots, &starts, &sizes, 401);
 }
 
-pub fn all() {
+pub(crate) fn all() {
     marks();
     clusters();
     first_clusters();

@@ -34,7 +34,8 @@ loop-less : tie.Need-loop-less Inv-loop μ-loop
 loop-less c = omega arith
 
 loop-again : tie.Need-loop-again Inv-loop μ-loop
-loop-again c = (omega arith, some-go _ _ _ _ (c .before .before .before .loop .inv .1) (omega arith) (sym (c .before .names-file .ensures) ∙ c .if1 .left))
+loop-again c = let l = c .before .before .before .loop in
+    (omega arith, some-go _ _ _ _ (l .inv .1) (omega arith) (sym (c .before .names-file .ensures) ∙ c .if1 .left))
 
 returns-2 : tie.Need-returns-2 Inv-loop μ-loop
 unfolding refersTo

@@ -1,0 +1,2 @@
+-- Which clusters are a file's and live, and which are the host's.
+pub mod Clusters

@@ -1,0 +1,3 @@
+// Names of root slots.
+pub mod entries;
+pub mod text;

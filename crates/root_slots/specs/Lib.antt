@@ -1,0 +1,2 @@
+-- Which host slots of the root are admitted, and the strict name.
+pub mod RootSlots
