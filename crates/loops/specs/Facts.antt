@@ -6,7 +6,7 @@ use native.Mathlib.Omega.{arith}
 use lib.Dec.{eqb}
 use lib.ListN.{length, getD}
 use borrow.Author.Tests.{eqb-true, eqb-false}
-use Rattle.loops.specs.Loops.{all, some, listed, first, last, scan, fold, Turn, stop, go, next}
+use Rattle.loops.specs.Loops.{all, some, listed, first, last, count, scan, fold, Turn, stop, go, next}
 use Rattle.loops.specs.Choices.{either, pick-by, picked, or-by, or-l, or-r}
 
 pub all-at : (p : ℕ → Bool) (n i k : ℕ) → all p n i ≡ true → i ≤ k → k < i + n → p k ≡ true
@@ -122,3 +122,46 @@ pub fold-keeps : {S : Type 0} (P : S → Type 0) (turn : ℕ → S → S) → ((
 unfolding fold
 fold-keeps P turn k zero i s h = h
 fold-keeps P turn k (suc n) i s h = fold-keeps P turn k n (i + 1) (turn i s) (k i s h)
+
+-- the loop over a test that says the same of each of them is the same
+module _ (p q : ℕ → Bool) where
+  pub first-same : (n i : ℕ) → ((k : ℕ) → i ≤ k → k < i + n → p k ≡ q k) → first p n i ≡ first q n i
+  unfolding first
+  first-same zero i f = refl
+  first-same (suc n) i f = rw (f i (omega arith) (omega arith), first-same n (i + 1) (λ k l h. f k (omega arith) (omega arith)))
+
+  pub count-same : (n i : ℕ) → ((k : ℕ) → i ≤ k → k < i + n → p k ≡ q k) → count p n i ≡ count q n i
+  unfolding count
+  count-same zero i f = refl
+  count-same (suc n) i f = rw (f i (omega arith) (omega arith), count-same n (i + 1) (λ k l h. f k (omega arith) (omega arith)))
+
+  -- one that is so by the second test only counts one more
+  pub count-more : (n i k : ℕ) → i ≤ k → k < i + n → p k ≡ false → q k ≡ true
+      → ((j : ℕ) → i ≤ j → j < i + n → (j ≡ k → ⊥) → p j ≡ q j) → count q n i ≡ count p n i + 1
+  unfolding count
+  count-more zero i k l h a b f = absurd (omega arith)
+  count-more (suc n) i k l h a b f =
+      either (eqb i k)
+      (λ e. let z = eqb-true i k e in
+      let s = count-same n (i + 1) (λ j m o. f j (omega arith) (omega arith) (λ w. omega arith)) in
+      let c : p i ≡ false = rw z a in
+      let d : q i ≡ true = rw z b in
+      rw (c, d, s) (omega arith))
+      (λ e. let z = eqb-false i k e in
+      let r = count-more n (i + 1) k (omega arith) (omega arith) a b (λ j m o w. f j (omega arith) (omega arith) w) in
+      rw (f i (omega arith) (omega arith) z, r) (omega arith))
+
+-- where none is so, the count is 0, and the other way round
+pub count-none : (p : ℕ → Bool) (n i : ℕ) → ((k : ℕ) → i ≤ k → k < i + n → p k ≡ false) → count p n i ≡ 0
+unfolding count
+count-none p zero i f = refl
+count-none p (suc n) i f = rw (f i (omega arith) (omega arith), count-none p n (i + 1) (λ k l h. f k (omega arith) (omega arith)))
+
+pub count-zero : (p : ℕ → Bool) (n i k : ℕ) → count p n i ≡ 0 → i ≤ k → k < i + n → p k ≡ false
+unfolding count
+count-zero p zero i k e l h = absurd (omega arith)
+count-zero p (suc n) i k e l h =
+    either (p i) (λ q. let z : 1 + count p n (i + 1) ≡ 0 = rw q at e in absurd (omega arith))
+    (λ q. let z : 0 + count p n (i + 1) ≡ 0 = rw q at e in
+    either (eqb i k) (λ w. rw (eqb-true i k w) at q)
+    (λ w. let v = eqb-false i k w in count-zero p n (i + 1) k (omega arith) (omega arith) (omega arith)))

@@ -6,3 +6,4 @@ pub mod Choices
 pub mod Facts
 pub mod Found
 pub mod Rows
+pub mod Keyed

@@ -47,3 +47,12 @@ module _ (f : ℕ → ℕ → ℕ) (d t : List ℕ) (i : ℕ) (inv : t ≡ take 
   rows-end h =
       let n = rows-length f 0 d in
       rw (inv, take-all i (rows f d) (omega arith), drop-of-length-le d {i = i} h) (append-nil (rows f d))
+
+-- two changes that agree on every row
+rowsFrom-same : (f g : ℕ → ℕ → ℕ) (i : ℕ) (xs : List ℕ) → ((j x : ℕ) → j < i + length xs → f j x ≡ g j x) → rowsFrom f i xs ≡ rowsFrom g i xs
+unfolding rowsFrom
+rowsFrom-same f g i [] e = refl
+rowsFrom-same f g i (x ∷ xs) e = rw (e i x (omega arith), rowsFrom-same f g (i + 1) xs (λ j y h. e j y (omega arith)))
+
+pub rows-same : (f g : ℕ → ℕ → ℕ) (xs : List ℕ) → ((j x : ℕ) → j < length xs → f j x ≡ g j x) → rows f xs ≡ rows g xs
+rows-same f g xs e = rowsFrom-same f g 0 xs (λ j x h. e j x (omega arith))

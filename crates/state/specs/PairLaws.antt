@@ -1,4 +1,4 @@
--- Laws of pairs and staging slots: what a lookup finds, and what setting a pair does to every cluster's.
+-- A place that was found is one of the places.
 use Prim.Native.Nat.{ℕ, _<_}
 use mathlib.Core.List.{List}
 use mathlib.Core.Path.{_≡_}

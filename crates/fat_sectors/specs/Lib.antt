@@ -1,0 +1,6 @@
+-- How a written FAT sector is judged.
+pub mod Values
+pub mod Fat
+pub mod Lent
+pub mod NamedValues
+pub mod FatLaws

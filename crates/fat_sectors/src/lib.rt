@@ -1,0 +1,3 @@
+// How a written FAT sector is judged.
+pub mod entries;
+pub mod sectors;
