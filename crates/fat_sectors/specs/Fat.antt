@@ -3,8 +3,9 @@ use Prim.Native.Nat.{ℕ, _+_, _*_}
 use mathlib.Core.Bool.{Bool, false, not, _&&_, _||_}
 use mathlib.Core.List.{List}
 use lib.Dec.{ltb, eqb}
-use Rattle.loops.specs.Loops.{pick, all, some, first, count, fold}
+use Rattle.loops.specs.Loops.{pick, all, first, count, fold}
 use Rattle.loops.specs.Rows.{rows}
+use Rattle.loops.specs.Marks.{pickedBy}
 use Rattle.loops.specs.declared.Found.{Found}
 use Rattle.loops.specs.declared.Found.the-variants.{At, Nothing}
 use Rattle.bits.specs.Bit.{setBit}
@@ -100,16 +101,9 @@ freedOwn x i Free = Nothing
 unfoldable pub freedBy : FatWrite → ℕ → Found
 freedBy x i = pick (changedAt x i) (freedOwn x i (ownerAt x i)) Nothing
 
-unfoldable pub isAt : ℕ → Found → Bool
-isAt j (At k) = eqb k j
-isAt j Nothing = false
-
 -- row j is freed by this sector
-abbrev pub freesAt : FatWrite → ℕ → ℕ → Bool
-freesAt x j i = isAt j (freedBy x i)
-
 unfoldable pub freesRow : FatWrite → ℕ → Bool
-freesRow x j = some (freesAt x j) 256 0
+freesRow x j = pickedBy (freedBy x) 256 j
 
 unfoldable pub freedOwner : FatWrite → Own → Bool
 freedOwner x Reserved = false

@@ -1,18 +1,17 @@
 -- Laws of a written FAT sector.
-use Prim.Native.Nat.{ℕ, zero, suc, _+_, _-_, _*_, _<_, _≤_, min, max}
+use Prim.Native.Nat.{ℕ, _+_, _-_, _*_, _<_, _≤_, min, max}
 use mathlib.Core.Bool.{Bool, true, false, not, _&&_, _||_}
 use mathlib.Core.List.{List}
-use mathlib.Core.Path.{_≡_, refl, sym, _∙_, ap}
+use mathlib.Core.Path.{_≡_, ap}
 use native.Mathlib.Omega.{arith}
 use lib.Dec.{leb, ltb, eqb}
-use lib.ListN.{getD, length, set}
-use lib.Seq.{getD-set-same, getD-set-other}
-use native.Mathlib.Numerals.{add-one}
-use borrow.Author.Tests.{le-leb, lt-ltb, leb-true, ltb-true, eqb-true, eqb-false, eq-eqb}
-use Rattle.loops.specs.Loops.{pick, all, some}
+use lib.ListN.{getD, length}
+use borrow.Author.Tests.{le-leb, lt-ltb, leb-true, ltb-true}
+use Rattle.loops.specs.Loops.{pick, all}
 use Rattle.loops.specs.Choices.{either, picked, same-if, and-0, and-1, or-by, or-l, or-r}
 use Rattle.loops.specs.Facts.{all-at, all-of}
 use Rattle.loops.specs.Rows.{rows as rowsOf, rows-same}
+use Rattle.loops.specs.Marks.{Marks, marked}
 use Rattle.loops.specs.declared.Found.the-variants.{At, Nothing}
 use Rattle.bits.specs.Bit.{setBit}
 use Rattle.sector.specs.Bytes.{word}
@@ -22,7 +21,7 @@ use Rattle.vdisk.specs.declared.owner.Own.{Own}
 use Rattle.vdisk.specs.declared.owner.Own.the-variants.{Reserved, Fixed, Dyn, Free}
 use Rattle.file_table.specs.Table.{inFile}
 use Rattle.clusters.specs.Clusters.{isLive}
-use Rattle.fat_sectors.specs.Fat.{FatWrite, clusterAt, changedAt, zeroedAt, zeroesFile, ownerAt, entryNumber, refusedAt, needsPair, freedOwn, freedBy, isAt, freesAt, freesRow, freeId}
+use Rattle.fat_sectors.specs.Fat.{FatWrite, clusterAt, changedAt, zeroedAt, zeroesFile, ownerAt, entryNumber, refusedAt, needsPair, freedOwn, freedBy, freesRow, freeId}
 
 -- the entry of cluster c is written 0
 abbrev pub zeroOf : FatWrite → ℕ → Bool
@@ -84,30 +83,6 @@ module _ (x : FatWrite) (i : ℕ) (same : changedAt x i ≡ false) where
   unfolding needsPair
   same-needs = rw same
 
-or-no-more : (b : Bool) → (b || false) ≡ b
-or-no-more true = refl
-or-no-more false = refl
-
-or-yes : (b : Bool) → (b || true) ≡ true
-or-yes true = refl
-or-yes false = refl
-
--- one more number at the end
-pub some-more : (p : ℕ → Bool) (n i : ℕ) → some p (suc n) i ≡ (some p n i || p (i + n))
-unfolding some
-some-more p zero i = let e : i + 0 ≡ i = omega arith in rw e (or-no-more (p i))
-some-more p (suc n) i =
-    let e : i + suc n ≡ i + 1 + n = omega arith in
-    rw (some-more p n (i + 1), e) (or-assoc (p i) (some p n (i + 1)) (p (i + 1 + n)))
-  where
-    or-assoc : (a b c : Bool) → (a || (b || c)) ≡ ((a || b) || c)
-    or-assoc true b c = refl
-    or-assoc false b c = refl
-
--- the rows that the first i entries free, 1 at each
-unfoldable pub Marks : FatWrite → ℕ → List ℕ → Type 0
-Marks x i rows = (k : ℕ) → k < 400 → getD rows k 0 ≡ pick (some (freesAt x k) i 0) 1 0
-
 freedOwn-is : (x : FatWrite) (i j : ℕ) (o : Own) → freedOwn x i o ≡ At j → o ≡ Dyn j
 unfolding freedOwn
 freedOwn-is x i j Reserved = λ (e : Nothing ≡ At j). let z : _≡_ {A = ℕ} 0 1 = cc in absurd (omega arith)
@@ -125,32 +100,10 @@ freedBy-lt x i j e =
     (λ p q. owner-is (x .starts) (x .sizes) (x .first) (clusterAt x i) j (freedOwn-is x i j (ownerAt x i) q) .row)
     (λ p (q : Nothing ≡ At j). let z : _≡_ {A = ℕ} 0 1 = cc in absurd (omega arith))
 
--- one entry more: it frees row j, or none
-module _ (x : FatWrite) (i : ℕ) (rows : List ℕ) (m : Marks x i rows) where
-  more : (k : ℕ) → some (freesAt x k) (i + 1) 0 ≡ (some (freesAt x k) i 0 || isAt k (freedBy x i))
-  more k = let e : 0 + i ≡ i = omega arith in rw (add-one i) (rw e at (some-more (freesAt x k) i 0))
-
-  pub marks-keep : freedBy x i ≡ Nothing → Marks x (i + 1) rows
-  unfolding Marks isAt
-  marks-keep e k h = m k h ∙ rw (more k, e) (ap (λ (b : Bool). pick b 1 0) (sym (or-no-more (some (freesAt x k) i 0))))
-
-  pub marks-put : (j : ℕ) → j < length rows → freedBy x i ≡ At j → Marks x (i + 1) (set rows j 1)
-  unfolding Marks isAt
-  marks-put j l e k h =
-      either (eqb j k)
-      (λ q. rw (← eqb-true j k q, getD-set-same rows j 1 0 l, more j, e, eq-eqb j j refl) (ap (λ (b : Bool). pick b 1 0) (sym (or-yes (some (freesAt x j) i 0)))))
-      (λ q. rw (getD-set-other rows j k 1 0 (λ z. eqb-false j k q (sym z)), more k, e, q)
-      (m k h ∙ ap (λ (b : Bool). pick b 1 0) (sym (or-no-more (some (freesAt x k) i 0)))))
-
--- a mark of 1 says so
-pub mark-is : (b : Bool) (n : ℕ) → n ≡ pick b 1 0 → eqb n 1 ≡ b
-mark-is true n e = rw e
-mark-is false n e = rw e
-
 -- marking the rows that are marked 1 marks those that the sector frees
-pub freed-ids : (x : FatWrite) (rows : List ℕ) → ((j : ℕ) → j < 400 → getD rows j 0 ≡ pick (freesRow x j) 1 0) → length (x .ids) ≤ 400
+pub freed-ids : (x : FatWrite) (rows : List ℕ) → Marks (freedBy x) 400 256 rows → length (x .ids) ≤ 400
     → rowsOf (λ j id. pick (eqb (getD rows j 0) 1) (setBit id 13) id) (x .ids) ≡ rowsOf (freeId x) (x .ids)
-unfolding freeId
+unfolding freeId freesRow
 freed-ids x rows m l =
     rows-same (λ j id. pick (eqb (getD rows j 0) 1) (setBit id 13) id) (freeId x) (x .ids)
-    (λ j id h. ap (λ (b : Bool). pick b (setBit id 13) id) (mark-is (freesRow x j) (getD rows j 0) (m j (omega arith))))
+    (λ j id h. ap (λ (b : Bool). pick b (setBit id 13) id) (marked (freedBy x) 400 256 rows m j (omega arith)))

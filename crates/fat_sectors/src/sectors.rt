@@ -18,8 +18,9 @@ ghost use lib.Dec.{eqb};
 ghost use lib.ListN.{length, getD};
 ghost use Rattle.loops.specs.Loops.{pick, fold};
 ghost use Rattle.loops.specs.Rows.{rows as rowsOf};
+ghost use Rattle.loops.specs.Marks.{Marks};
 ghost use Rattle.bits.specs.Bit.{setBit};
-ghost use Rattle.fat_sectors.specs.Fat.{fatWrite, fatNumber, freesRow, freedOwner, applyAt, fatState, freeId, fatIds, ownerAt};
+ghost use Rattle.fat_sectors.specs.Fat.{fatWrite, fatNumber, freedBy, freedOwner, applyAt, fatState, freeId, fatIds, ownerAt};
 ghost use Rattle.fat_sectors.specs.Lent.{Lent};
 
 // The entries in turn, up to the first that is refused; then 14.
@@ -75,7 +76,7 @@ fn freed_rows(
     d: &[u8],
 ) -> [u8; 400]
     requires { ⌜ Lent (now ids) (now starts) (now sizes) sorted s (now g) (now d) ⌝ }
-    ensures { λ r. ⌜ ((j : ℕ) → j < 400 → getD r j 0 ≡ pick (freesRow (fatWrite (now (ids .entry)) (now (starts .entry)) (now (sizes .entry)) first pair s (now (g .entry)) (now (d .entry))) j) 1 0) ⌝ }
+    ensures { λ r. ⌜ Marks (freedBy (fatWrite (now (ids .entry)) (now (starts .entry)) (now (sizes .entry)) first pair s (now (g .entry)) (now (d .entry)))) 400 256 r ⌝ }
 {
     let mut rows = [0u8; 400];
     let mut i = 0;
@@ -108,7 +109,7 @@ fn is_freed(
     i: u32,
 ) -> bool
     requires lent { ⌜ Lent (now ids) (now starts) (now sizes) sorted s (now g) (now d) × (i < 256) × (length (now rows) ≡ 400) ⌝ }
-    requires marked { ⌜ ((j : ℕ) → j < 400 → getD (now rows) j 0 ≡ pick (freesRow (fatWrite (now ids) (now starts) (now sizes) first pair s (now g) (now d)) j) 1 0) ⌝ }
+    requires marked { ⌜ Marks (freedBy (fatWrite (now ids) (now starts) (now sizes) first pair s (now g) (now d))) 400 256 (now rows) ⌝ }
     ensures { λ r. ⌜ r ≡ freedOwner (fatWrite (now (ids .entry)) (now (starts .entry)) (now (sizes .entry)) first pair s (now (g .entry)) (now (d .entry))) (ownerAt (fatWrite (now (ids .entry)) (now (starts .entry)) (now (sizes .entry)) first pair s (now (g .entry)) (now (d .entry))) i) ⌝ }
 {
     match owner(starts, sizes, sorted, first, s * 256 + i) {
@@ -135,7 +136,7 @@ fn apply_at(
     mut w: W,
 ) -> W
     requires lent { ⌜ Lent (now ids) (now starts) (now sizes) sorted s (now g) (now d) × (i < 256) × (length (now rows) ≡ 400) ⌝ }
-    requires marked { ⌜ ((j : ℕ) → j < 400 → getD (now rows) j 0 ≡ pick (freesRow (fatWrite (now ids) (now starts) (now sizes) first pair s (now g) (now d)) j) 1 0) ⌝ }
+    requires marked { ⌜ Marks (freedBy (fatWrite (now ids) (now starts) (now sizes) first pair s (now g) (now d))) 400 256 (now rows) ⌝ }
     ensures { λ r. ⌜ r ≡ applyAt (fatWrite (now (ids .entry)) (now (starts .entry)) (now (sizes .entry)) first pair s (now (g .entry)) (now (d .entry))) i w ⌝ }
 {
     if !is_changed(g, d, i) {
@@ -167,7 +168,7 @@ fn apply_all(
     w: W,
 ) -> W
     requires lent { ⌜ Lent (now ids) (now starts) (now sizes) sorted s (now g) (now d) × (length (now rows) ≡ 400) ⌝ }
-    requires marked { ⌜ ((j : ℕ) → j < 400 → getD (now rows) j 0 ≡ pick (freesRow (fatWrite (now ids) (now starts) (now sizes) first pair s (now g) (now d)) j) 1 0) ⌝ }
+    requires marked { ⌜ Marks (freedBy (fatWrite (now ids) (now starts) (now sizes) first pair s (now g) (now d))) 400 256 (now rows) ⌝ }
     ensures { λ r. ⌜ r ≡ fold (applyAt (fatWrite (now (ids .entry)) (now (starts .entry)) (now (sizes .entry)) first pair s (now (g .entry)) (now (d .entry)))) 256 0 w ⌝ }
 {
     let mut out = w;

@@ -7,3 +7,4 @@ pub mod Facts
 pub mod Found
 pub mod Rows
 pub mod Keyed
+pub mod Marks

@@ -1,7 +1,7 @@
+use Rattle.loops.specs.Marks.{marked}
+use Rattle.fat_sectors.specs.Fat.{freedOwner, freesRow}
 use mathlib.Core.Path.{sym, _∙_}
 use Rattle.vdisk.specs.OwnerLaws.{owner-is}
-use Rattle.fat_sectors.specs.Fat.{freedOwner}
-use Rattle.fat_sectors.specs.FatLaws.{mark-is}
 use native.Mathlib.Omega.{arith}
 use borrow.Author.Needs.{needs}
 use Rattle.fat_sectors.proofs.sectors.is_freed.Statement.{statement}
@@ -40,8 +40,8 @@ unfolding freedOwner
 returns-2 c = simp (sym (c .before .before .owner .ensures) ∙ c .enum-told2 .given .1)
 
 returns-3 : tie.Need-returns-3
-unfolding freedOwner
-returns-3 c = let l = owner-is _ _ _ _ _ (sym (c .before .before .before .before .owner .ensures) ∙ c .before .before .j .given .1) .row in simp (sym (c .before .before .before .before .owner .ensures) ∙ c .before .before .j .given .1) (mark-is _ _ (c .before .before .before .before .before .before .before .before .before .before .before .pre .1 _ (omega (arith, l, c .before .before .before .before .before .before .before .before .before .before .before .pre .0 .0 .few, c .before .before .before .before .before .before .before .before .before .before .before .pre .0 .0 .ids-starts))))
+unfolding freedOwner freesRow
+returns-3 c = let l = owner-is _ _ _ _ _ (sym (c .before .before .before .before .owner .ensures) ∙ c .before .before .j .given .1) .row in simp (sym (c .before .before .before .before .owner .ensures) ∙ c .before .before .j .given .1) (marked _ 400 256 _ (c .before .before .before .before .before .before .before .before .before .before .before .pre .1) _ (omega (arith, l, c .before .before .before .before .before .before .before .before .before .before .before .pre .0 .0 .few, c .before .before .before .before .before .before .before .before .before .before .before .pre .0 .0 .ids-starts)))
 
 returns-4 : tie.Need-returns-4
 unfolding freedOwner
