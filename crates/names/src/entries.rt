@@ -7,7 +7,7 @@ ghost use lib.ListN.{length, take, drop};
 ghost use Rattle.names.specs.Names.{entryOf, charPlace, charOf, ends, textLen, entriesRead, entriesStrict};
 
 // 32 bytes of a sector.
-fn copied(d: &[u8], at: usize) -> [u8; 32]
+pub fn copied(d: &[u8], at: usize) -> [u8; 32]
     requires { ⌜ at + 32 ≤ length (now d) ⌝ }
     ensures { λ r. ⌜ r ≡ take 32 (drop at (now (d .entry))) ⌝ }
 {

@@ -1,0 +1,4 @@
+-- How a written root sector is judged.
+pub mod Root
+pub mod Lent
+pub mod RootLaws

@@ -1,0 +1,20 @@
+-- Laws of a written root sector.
+use Prim.Native.Nat.{ℕ, _<_}
+use mathlib.Core.List.{List}
+use mathlib.Core.Path.{_≡_}
+use Rattle.loops.specs.Found.{find-lt}
+use Rattle.loops.specs.declared.Found.{Found}
+use Rattle.loops.specs.declared.Found.the-variants.{At, Nothing}
+use Rattle.records.specs.Records.{maxRecords, recIdx, freeHere, freeRec}
+use Rattle.records.specs.RecordLaws.{recIdx-lt}
+use Rattle.records.specs.declared.Rec.{Rec}
+use Rattle.root_sectors.specs.Root.{placeOf}
+
+place-by : (recs : List Rec) (i : ℕ) (f : Found) → ((j : ℕ) → f ≡ At j → j < maxRecords) → placeOf recs f ≡ At i → i < maxRecords
+unfolding placeOf freeRec
+place-by recs i (At k) g e = g i e
+place-by recs i Nothing g e = find-lt (freeHere recs) maxRecords i e
+
+-- the place where a slot is kept is one of the records'
+pub placeOf-lt : (recs : List Rec) (n i : ℕ) → placeOf recs (recIdx recs n) ≡ At i → i < maxRecords
+placeOf-lt recs n i e = place-by recs i (recIdx recs n) (λ j q. recIdx-lt recs n j q) e

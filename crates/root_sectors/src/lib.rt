@@ -1,0 +1,238 @@
+// How a written root sector is judged.
+use clusters::host_cluster;
+use clusters::is_nothing;
+use loops::Found;
+use names::entries::copied;
+use records::NREC;
+use records::Rec;
+use records::free_rec;
+use records::rec_idx;
+use slots::dates::dates_only;
+use slots::dates::same_slot;
+use state::w::Judged;
+use state::w::NPAIR;
+use state::w::Pair;
+use state::w::W;
+ghost use mathlib.Core.Path.{_≡_};
+ghost use Prim.Native.Nat.{ℕ, _+_, _*_, _<_};
+ghost use mathlib.Core.Bool.{not, _&&_};
+ghost use lib.Dec.{leb};
+ghost use lib.ListN.{length};
+ghost use Rattle.loops.specs.Loops.{some, fold};
+ghost use Rattle.slots.specs.Slots.{sameSlot};
+ghost use Rattle.clusters.specs.Clusters.{isNothing};
+ghost use Rattle.records.specs.Records.{recIdx};
+ghost use Rattle.root_sectors.specs.Root.{rootWrite, startFits, slotNumber, rootNumber, placeOf, keepSlot, rootState, rootChanged};
+ghost use Rattle.root_sectors.specs.Lent.{Lent};
+
+// Is the start in slot `i` 0 or a host cluster.
+fn start_fits(
+    ids: &[u16],
+    starts: &[u16],
+    sizes: &[u32],
+    sorted: bool,
+    first: u32,
+    pair: [Pair; NPAIR],
+    rec: [Rec; NREC],
+    s: u32,
+    g: &[u8],
+    d: &[u8],
+    i: u32,
+) -> bool
+    requires { ⌜ Lent (now ids) (now starts) (now sizes) sorted s (now g) (now d) × (i < 16) ⌝ }
+    ensures { λ r. ⌜ r ≡ startFits (rootWrite (now (ids .entry)) (now (starts .entry)) (now (sizes .entry)) first pair rec s (now (g .entry)) (now (d .entry))) i ⌝ }
+{
+    let start = slots::fields::start(d, i as usize * 32);
+    if start == 0 {
+        return true;
+    }
+    host_cluster(ids, starts, sizes, sorted, first, pair, start as u32)
+}
+
+// The refusal number of slot `i`, 0 where it passes: 7, 8.
+fn slot_number(
+    ids: &[u16],
+    starts: &[u16],
+    sizes: &[u32],
+    sorted: bool,
+    first: u32,
+    pair: [Pair; NPAIR],
+    rec: [Rec; NREC],
+    s: u32,
+    g: &[u8],
+    d: &[u8],
+    i: u32,
+) -> u8
+    requires { ⌜ Lent (now ids) (now starts) (now sizes) sorted s (now g) (now d) × (i < 16) ⌝ }
+    ensures { λ r. ⌜ r ≡ slotNumber (rootWrite (now (ids .entry)) (now (starts .entry)) (now (sizes .entry)) first pair rec s (now (g .entry)) (now (d .entry))) i ⌝ }
+{
+    let at = i as usize * 32;
+    if same_slot(g, d, at) {
+        return 0;
+    }
+    let idx = s * 16 + i;
+    if idx <= 6 {
+        if dates_only(g, d, at) {
+            return 0;
+        }
+        return 7;
+    }
+    let host = start_fits(ids, starts, sizes, sorted, first, pair, rec, s, g, d, i);
+    if root_slots::rec_ok(rec, d, s as usize * 16, idx as usize, host) {
+        return 0;
+    }
+    8
+}
+
+// Is slot `i` a changed host slot.
+fn is_kept(s: u32, g: &[u8], d: &[u8], i: u32) -> bool
+    requires { ⌜ (s < 32) × (length (now g) ≡ 512) × (length (now d) ≡ 512) × (i < 16) ⌝ }
+    ensures { λ r. ⌜ r ≡ not (sameSlot (now (g .entry)) (now (d .entry)) (i * 32)) && not (leb (s * 16 + i) 6) ⌝ }
+{
+    if same_slot(g, d, i as usize * 32) {
+        return false;
+    }
+    !(s * 16 + i <= 6)
+}
+
+// Does slot `i` need a record's place.
+fn needs_rec(rec: [Rec; NREC], s: u32, g: &[u8], d: &[u8], i: u32) -> bool
+    requires { ⌜ (s < 32) × (length (now g) ≡ 512) × (length (now d) ≡ 512) × (i < 16) ⌝ }
+    ensures { λ r. ⌜ r ≡ not (sameSlot (now (g .entry)) (now (d .entry)) (i * 32)) && not (leb (s * 16 + i) 6) && isNothing (recIdx rec (s * 16 + i)) ⌝ }
+{
+    if !is_kept(s, g, d, i) {
+        return false;
+    }
+    is_nothing(rec_idx(rec, (s * 16 + i) as usize))
+}
+
+// The slots in turn, up to the first that is refused; then 15.
+fn root_number(
+    ids: &[u16],
+    starts: &[u16],
+    sizes: &[u32],
+    sorted: bool,
+    first: u32,
+    pair: [Pair; NPAIR],
+    rec: [Rec; NREC],
+    s: u32,
+    g: &[u8],
+    d: &[u8],
+) -> u8
+    requires { ⌜ Lent (now ids) (now starts) (now sizes) sorted s (now g) (now d) ⌝ }
+    ensures { λ r. ⌜ r ≡ rootNumber (rootWrite (now (ids .entry)) (now (starts .entry)) (now (sizes .entry)) first pair rec s (now (g .entry)) (now (d .entry))) ⌝ }
+{
+    let mut need = 0;
+    let mut i = 0;
+    while i < 16 {
+        let no = slot_number(ids, starts, sizes, sorted, first, pair, rec, s, g, d, i);
+        if no != 0 {
+            return no;
+        }
+        if needs_rec(rec, s, g, d, i) {
+            need += 1;
+            i += 1;
+        } else {
+            i += 1;
+        }
+    }
+    if records::free_recs(rec) < need {
+        return 15;
+    }
+    0
+}
+
+// The record of root slot `idx`, or the first free place.
+fn place_of(rec: [Rec; NREC], idx: usize) -> Found
+    ensures { λ r. ⌜ r ≡ placeOf rec (recIdx rec idx) ⌝ }
+{
+    match rec_idx(rec, idx) {
+        Found::At(k) => Found::At(k),
+        Found::Nothing => free_rec(rec),
+    }
+}
+
+// Slot `i` as written, kept in its record.
+fn keep_at(mut w: W, s: u32, g: &[u8], d: &[u8], i: u32) -> W
+    requires { ⌜ (s < 32) × (length (now g) ≡ 512) × (length (now d) ≡ 512) × (i < 16) ⌝ }
+    ensures { λ r. ⌜ r ≡ keepSlot s (now (g .entry)) (now (d .entry)) i w ⌝ }
+{
+    if !is_kept(s, g, d, i) {
+        return w;
+    }
+    let idx = s * 16 + i;
+    let rec = w.rec;
+    let Found::At(k) = place_of(rec, idx as usize) else {
+        return w;
+    };
+    let e = copied(d, i as usize * 32);
+    w.rec[k] = Rec {
+        slot: idx as u16,
+        e: e,
+    };
+    w
+}
+
+fn keep_all(w: W, s: u32, g: &[u8], d: &[u8]) -> W
+    requires { ⌜ (s < 32) × (length (now g) ≡ 512) × (length (now d) ≡ 512) ⌝ }
+    ensures { λ r. ⌜ r ≡ fold (keepSlot s (now (g .entry)) (now (d .entry))) 16 0 w ⌝ }
+{
+    let mut out = w;
+    let mut i = 0;
+    while i < 16 {
+        out = keep_at(out, s, g, d, i);
+        i += 1;
+    }
+    out
+}
+
+// Does the sector change a host slot.
+fn any_kept(s: u32, g: &[u8], d: &[u8]) -> bool
+    requires { ⌜ (s < 32) × (length (now g) ≡ 512) × (length (now d) ≡ 512) ⌝ }
+    ensures { λ r. ⌜ r ≡ some (λ i. not (sameSlot (now (g .entry)) (now (d .entry)) (i * 32)) && not (leb (s * 16 + i) 6)) 16 0 ⌝ }
+{
+    let mut i = 0;
+    while i < 16 {
+        if is_kept(s, g, d, i) {
+            return true;
+        }
+        i += 1;
+    }
+    false
+}
+
+// A written root sector: the records of its host slots, where it is taken.
+pub fn root(
+    w: W,
+    ids: &[u16],
+    starts: &[u16],
+    sizes: &[u32],
+    sorted: bool,
+    s: u32,
+    g: &[u8],
+    d: &[u8],
+) -> Judged
+    requires { ⌜ Lent (now ids) (now starts) (now sizes) sorted s (now g) (now d) ⌝ }
+    ensures number { λ r. ⌜ r .no ≡ rootNumber (rootWrite (now (ids .entry)) (now (starts .entry)) (now (sizes .entry)) (w .first) (w .pair) (w .rec) s (now (g .entry)) (now (d .entry))) ⌝ }
+    ensures changed { λ r. ⌜ r .changed ≡ rootChanged (rootWrite (now (ids .entry)) (now (starts .entry)) (now (sizes .entry)) (w .first) (w .pair) (w .rec) s (now (g .entry)) (now (d .entry))) ⌝ }
+    ensures state { λ r. ⌜ r .w ≡ rootState (rootWrite (now (ids .entry)) (now (starts .entry)) (now (sizes .entry)) (w .first) (w .pair) (w .rec) s (now (g .entry)) (now (d .entry))) w ⌝ }
+{
+    let first = w.first;
+    let pair = w.pair;
+    let rec = w.rec;
+    let no = root_number(ids, starts, sizes, sorted, first, pair, rec, s, g, d);
+    if no != 0 {
+        return Judged {
+            no: no,
+            changed: false,
+            w: w,
+        };
+    }
+    let changed = any_kept(s, g, d);
+    let kept = keep_all(w, s, g, d);
+    Judged {
+        no: 0,
+        changed: changed,
+        w: kept,
+    }
+}
