@@ -1,0 +1,2 @@
+// How data written to a host cluster is staged.
+pub mod blocks;
