@@ -13,6 +13,7 @@ use Rattle.loops.specs.Rows.{rows as rowsOf, rows-same}
 use Rattle.loops.specs.Marks.{Marks, marked}
 use Rattle.loops.specs.declared.Found.the-variants.{At, Nothing}
 use Rattle.bits.specs.Bit.{setBit}
+use Rattle.file_table.specs.Table.{maxFiles}
 use Rattle.slots.specs.Slots.{datesOnly, turnAt}
 use Rattle.state.specs.declared.w.St.{St}
 use Rattle.medium.specs.Reads.{movedRef}
@@ -23,8 +24,8 @@ use Rattle.dir_sectors.specs.declared.Turns.{Turns}
 pub record TurnsOf (x : DirWrite) (t : Turns) : Type 0 where
   pub number : t .no ≡ dirNumber x
   pub some-turn : t .no ≡ 0 → t .any ≡ some (λ i. isFound (turnedBy x i)) 16 0
-  pub long : length (t .rows) ≡ 400
-  pub marks : t .no ≡ 0 → Marks (turnedBy x) 400 16 (t .rows)
+  pub long : length (t .rows) ≡ maxFiles
+  pub marks : t .no ≡ 0 → Marks (turnedBy x) maxFiles 16 (t .rows)
 
 -- a row marked 1 becomes turned, and moved where a staged sector names its file
 unfoldable pub markId : List ℕ → List ℕ → List ℕ → List ℕ → List ℕ → List St → ℕ → ℕ → ℕ
@@ -53,10 +54,10 @@ turnedBy-lt x i j e =
     (λ p (q : Nothing ≡ At j). let z : _≡_ {A = ℕ} 0 1 = cc in absurd (omega arith))
 
 -- marking the rows that are marked 1 turns those that the sector turns
-pub turned-ids : (x : DirWrite) (fat area : List ℕ) (st : List St) (rows : List ℕ) → Marks (turnedBy x) 400 16 rows → length (x .ids) ≤ 400
+pub turned-ids : (x : DirWrite) (fat area : List ℕ) (st : List St) (rows : List ℕ) → Marks (turnedBy x) maxFiles 16 rows → length (x .ids) ≤ maxFiles
     → rowsOf (markId rows (x .starts) (x .sizes) fat area st) (x .ids) ≡ rowsOf (dirId x fat area st) (x .ids)
 unfolding markId dirId turnId turnsRow
 turned-ids x fat area st rows m l =
     rows-same (markId rows (x .starts) (x .sizes) fat area st) (dirId x fat area st) (x .ids)
     (λ j id h. ap (λ (b : Bool). pick b (pick (movedRef fat area st (getD (x .starts) j 0) (getD (x .sizes) j 0)) (setBit (setBit id 12) 15) (setBit id 12)) id)
-    (marked (turnedBy x) 400 16 rows m j (omega arith)))
+    (marked (turnedBy x) maxFiles 16 rows m j (omega arith)))

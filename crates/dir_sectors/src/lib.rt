@@ -1,4 +1,5 @@
 // How a written sector of a generated directory is judged.
+use file_table::MAX_VF;
 use loops::Found;
 use medium::reads::moved_ref;
 use state::w::NST;
@@ -96,7 +97,7 @@ fn turned_by(
 struct Turns {
     no: u8,
     any: bool,
-    rows: [u8; 400],
+    rows: [u8; MAX_VF],
 }
 
 // Each slot passes by its dates or by a turn.
@@ -113,7 +114,7 @@ fn slot_turns(
     requires { ⌜ Lent (now ids) (now slots) (now starts) (now sizes) s (now g) (now d) ⌝ }
     ensures { λ r. ⌜ TurnsOf (dirWrite (now (ids .entry)) (now (slots .entry)) (now (starts .entry)) (now (sizes .entry)) k s (now (g .entry)) (now (d .entry))) r ⌝ }
 {
-    let mut rows = [0u8; 400];
+    let mut rows = [0u8; MAX_VF];
     let mut any = false;
     let mut i = 0;
     while i < 16 {

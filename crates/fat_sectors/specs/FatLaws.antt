@@ -19,7 +19,7 @@ use Rattle.vdisk.specs.Drive.{clustersOf}
 use Rattle.vdisk.specs.OwnerLaws.{owner-is}
 use Rattle.vdisk.specs.declared.owner.Own.{Own}
 use Rattle.vdisk.specs.declared.owner.Own.the-variants.{Reserved, Fixed, Dyn, Free}
-use Rattle.file_table.specs.Table.{inFile}
+use Rattle.file_table.specs.Table.{inFile, maxFiles}
 use Rattle.clusters.specs.Clusters.{isLive}
 use Rattle.fat_sectors.specs.Fat.{FatWrite, clusterAt, changedAt, zeroedAt, zeroesFile, ownerAt, entryNumber, refusedAt, needsPair, freedOwn, freedBy, freesRow, freeId}
 
@@ -101,9 +101,9 @@ freedBy-lt x i j e =
     (λ p (q : Nothing ≡ At j). let z : _≡_ {A = ℕ} 0 1 = cc in absurd (omega arith))
 
 -- marking the rows that are marked 1 marks those that the sector frees
-pub freed-ids : (x : FatWrite) (rows : List ℕ) → Marks (freedBy x) 400 256 rows → length (x .ids) ≤ 400
+pub freed-ids : (x : FatWrite) (rows : List ℕ) → Marks (freedBy x) maxFiles 256 rows → length (x .ids) ≤ maxFiles
     → rowsOf (λ j id. pick (eqb (getD rows j 0) 1) (setBit id 13) id) (x .ids) ≡ rowsOf (freeId x) (x .ids)
 unfolding freeId freesRow
 freed-ids x rows m l =
     rows-same (λ j id. pick (eqb (getD rows j 0) 1) (setBit id 13) id) (freeId x) (x .ids)
-    (λ j id h. ap (λ (b : Bool). pick b (setBit id 13) id) (marked (freedBy x) 400 256 rows m j (omega arith)))
+    (λ j id h. ap (λ (b : Bool). pick b (setBit id 13) id) (marked (freedBy x) maxFiles 256 rows m j (omega arith)))

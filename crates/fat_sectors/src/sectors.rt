@@ -3,6 +3,7 @@ use crate::entries::entry_number;
 use crate::entries::freed_by;
 use crate::entries::is_changed;
 use crate::entries::needs_pair;
+use file_table::MAX_VF;
 use loops::Found;
 use state::w::Judged;
 use state::w::NPAIR;
@@ -21,6 +22,7 @@ ghost use Rattle.loops.specs.Rows.{rows as rowsOf};
 ghost use Rattle.loops.specs.Marks.{Marks};
 ghost use Rattle.bits.specs.Bit.{setBit};
 ghost use Rattle.fat_sectors.specs.Fat.{fatWrite, fatNumber, freedBy, freedOwner, applyAt, fatState, freeId, fatIds, ownerAt};
+ghost use Rattle.file_table.specs.Table.{maxFiles};
 ghost use Rattle.fat_sectors.specs.Lent.{Lent};
 
 // The entries in turn, up to the first that is refused; then 14.
@@ -74,11 +76,11 @@ fn freed_rows(
     s: u32,
     g: &[u8],
     d: &[u8],
-) -> [u8; 400]
+) -> [u8; MAX_VF]
     requires { ⌜ Lent (now ids) (now starts) (now sizes) sorted s (now g) (now d) ⌝ }
-    ensures { λ r. ⌜ Marks (freedBy (fatWrite (now (ids .entry)) (now (starts .entry)) (now (sizes .entry)) first pair s (now (g .entry)) (now (d .entry)))) 400 256 r ⌝ }
+    ensures { λ r. ⌜ Marks (freedBy (fatWrite (now (ids .entry)) (now (starts .entry)) (now (sizes .entry)) first pair s (now (g .entry)) (now (d .entry)))) maxFiles 256 r ⌝ }
 {
-    let mut rows = [0u8; 400];
+    let mut rows = [0u8; MAX_VF];
     let mut i = 0;
     while i < 256 {
         match freed_by(ids, starts, sizes, sorted, first, pair, s, g, d, i) {
@@ -108,8 +110,8 @@ fn is_freed(
     rows: &[u8],
     i: u32,
 ) -> bool
-    requires lent { ⌜ Lent (now ids) (now starts) (now sizes) sorted s (now g) (now d) × (i < 256) × (length (now rows) ≡ 400) ⌝ }
-    requires marked { ⌜ Marks (freedBy (fatWrite (now ids) (now starts) (now sizes) first pair s (now g) (now d))) 400 256 (now rows) ⌝ }
+    requires lent { ⌜ Lent (now ids) (now starts) (now sizes) sorted s (now g) (now d) × (i < 256) × (length (now rows) ≡ maxFiles) ⌝ }
+    requires marked { ⌜ Marks (freedBy (fatWrite (now ids) (now starts) (now sizes) first pair s (now g) (now d))) maxFiles 256 (now rows) ⌝ }
     ensures { λ r. ⌜ r ≡ freedOwner (fatWrite (now (ids .entry)) (now (starts .entry)) (now (sizes .entry)) first pair s (now (g .entry)) (now (d .entry))) (ownerAt (fatWrite (now (ids .entry)) (now (starts .entry)) (now (sizes .entry)) first pair s (now (g .entry)) (now (d .entry))) i) ⌝ }
 {
     match owner(starts, sizes, sorted, first, s * 256 + i) {
@@ -135,8 +137,8 @@ fn apply_at(
     i: u32,
     mut w: W,
 ) -> W
-    requires lent { ⌜ Lent (now ids) (now starts) (now sizes) sorted s (now g) (now d) × (i < 256) × (length (now rows) ≡ 400) ⌝ }
-    requires marked { ⌜ Marks (freedBy (fatWrite (now ids) (now starts) (now sizes) first pair s (now g) (now d))) 400 256 (now rows) ⌝ }
+    requires lent { ⌜ Lent (now ids) (now starts) (now sizes) sorted s (now g) (now d) × (i < 256) × (length (now rows) ≡ maxFiles) ⌝ }
+    requires marked { ⌜ Marks (freedBy (fatWrite (now ids) (now starts) (now sizes) first pair s (now g) (now d))) maxFiles 256 (now rows) ⌝ }
     ensures { λ r. ⌜ r ≡ applyAt (fatWrite (now (ids .entry)) (now (starts .entry)) (now (sizes .entry)) first pair s (now (g .entry)) (now (d .entry))) i w ⌝ }
 {
     if !is_changed(g, d, i) {
@@ -167,8 +169,8 @@ fn apply_all(
     rows: &[u8],
     w: W,
 ) -> W
-    requires lent { ⌜ Lent (now ids) (now starts) (now sizes) sorted s (now g) (now d) × (length (now rows) ≡ 400) ⌝ }
-    requires marked { ⌜ Marks (freedBy (fatWrite (now ids) (now starts) (now sizes) first pair s (now g) (now d))) 400 256 (now rows) ⌝ }
+    requires lent { ⌜ Lent (now ids) (now starts) (now sizes) sorted s (now g) (now d) × (length (now rows) ≡ maxFiles) ⌝ }
+    requires marked { ⌜ Marks (freedBy (fatWrite (now ids) (now starts) (now sizes) first pair s (now g) (now d))) maxFiles 256 (now rows) ⌝ }
     ensures { λ r. ⌜ r ≡ fold (applyAt (fatWrite (now (ids .entry)) (now (starts .entry)) (now (sizes .entry)) first pair s (now (g .entry)) (now (d .entry)))) 256 0 w ⌝ }
 {
     let mut out = w;

@@ -1,3 +1,4 @@
+use Rattle.file_table.specs.Table.{maxFiles}
 use Prim.Native.Nat.{ℕ, _≤_, _-_}
 use mathlib.Core.Path.{_≡_, sym, _∙_}
 use borrow.Author.Needs.{needs}
@@ -13,13 +14,13 @@ use Rattle.dir_sectors.proofs.slot_turns.Statement.{statement}
 use Rattle.dir_sectors.proofs.slot_turns.Tie as tie
 
 abbrev Inv-loop : tie.InvT-loop
-Inv-loop ids slots starts sizes k s g d rows₀ any₀ i₀ rows any i = (i ≤ 16) × (length rows ≡ 400) × Marks (turnedBy (dirWrite ids slots starts sizes k s g d)) 400 i rows × (all (slotPasses (dirWrite ids slots starts sizes k s g d)) 16 0 ≡ all (slotPasses (dirWrite ids slots starts sizes k s g d)) (16 - i) i) × (some (λ n. isFound (turnedBy (dirWrite ids slots starts sizes k s g d) n)) 16 0 ≡ sought (λ n. isFound (turnedBy (dirWrite ids slots starts sizes k s g d) n)) 16 i any)
+Inv-loop ids slots starts sizes k s g d rows₀ any₀ i₀ rows any i = (i ≤ 16) × (length rows ≡ maxFiles) × Marks (turnedBy (dirWrite ids slots starts sizes k s g d)) maxFiles i rows × (all (slotPasses (dirWrite ids slots starts sizes k s g d)) 16 0 ≡ all (slotPasses (dirWrite ids slots starts sizes k s g d)) (16 - i) i) × (some (λ n. isFound (turnedBy (dirWrite ids slots starts sizes k s g d) n)) 16 0 ≡ sought (λ n. isFound (turnedBy (dirWrite ids slots starts sizes k s g d) n)) 16 i any)
 
 abbrev μ-loop : tie.MeasureT-loop
 μ-loop ids slots starts sizes k s g d rows₀ any₀ i₀ rows any i = 16 - i
 
 loop-holds : tie.Need-loop-holds Inv-loop μ-loop
-loop-holds c = (omega arith, length-replicate {A = ℕ} 400 0, marks-none _ 400, all-start _ _, sought-start _ _)
+loop-holds c = (omega arith, length-replicate {A = ℕ} maxFiles 0, marks-none _ maxFiles, all-start _ _, sought-start _ _)
 
 turned-by-requires : tie.Need-turned-by-requires Inv-loop μ-loop
 turned-by-requires c κs = (c .before .before .before .before .before .before .before .before .pre, c .loop-test .taken)

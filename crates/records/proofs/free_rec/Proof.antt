@@ -8,10 +8,10 @@ use Rattle.records.proofs.free_rec.Statement.{statement}
 use Rattle.records.proofs.free_rec.Tie as tie
 
 abbrev Inv-loop : tie.InvT-loop
-Inv-loop rec i₀ i = (i ≤ 10) × (find (freeHere rec) maxRecords ≡ findFrom (freeHere rec) maxRecords i)
+Inv-loop rec i₀ i = (i ≤ maxRecords) × (find (freeHere rec) maxRecords ≡ findFrom (freeHere rec) maxRecords i)
 
 abbrev μ-loop : tie.MeasureT-loop
-μ-loop rec i₀ i = 10 - i
+μ-loop rec i₀ i = maxRecords - i
 
 loop-holds : tie.Need-loop-holds Inv-loop μ-loop
 loop-holds c = (omega arith, find-start _ _)

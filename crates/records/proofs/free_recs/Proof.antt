@@ -8,10 +8,10 @@ use Rattle.records.proofs.free_recs.Statement.{statement}
 use Rattle.records.proofs.free_recs.Tie as tie
 
 abbrev Inv-loop : tie.InvT-loop
-Inv-loop rec n₀ i₀ n i = (i ≤ 10) × (n ≤ i) × (count (freeHere rec) maxRecords 0 ≡ n + count (freeHere rec) (maxRecords - i) i)
+Inv-loop rec n₀ i₀ n i = (i ≤ maxRecords) × (n ≤ i) × (count (freeHere rec) maxRecords 0 ≡ n + count (freeHere rec) (maxRecords - i) i)
 
 abbrev μ-loop : tie.MeasureT-loop
-μ-loop rec n₀ i₀ n i = 10 - i
+μ-loop rec n₀ i₀ n i = maxRecords - i
 
 loop-holds : tie.Need-loop-holds Inv-loop μ-loop
 loop-holds c = (omega arith, omega arith, count-start _ _)

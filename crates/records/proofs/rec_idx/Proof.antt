@@ -7,10 +7,10 @@ use Rattle.records.proofs.rec_idx.Statement.{statement}
 use Rattle.records.proofs.rec_idx.Tie as tie
 
 abbrev Inv-loop : tie.InvT-loop
-Inv-loop idx rec i₀ i = (i ≤ 10) × (find (recHere rec idx) maxRecords ≡ findFrom (recHere rec idx) maxRecords i)
+Inv-loop idx rec i₀ i = (i ≤ maxRecords) × (find (recHere rec idx) maxRecords ≡ findFrom (recHere rec idx) maxRecords i)
 
 abbrev μ-loop : tie.MeasureT-loop
-μ-loop idx rec i₀ i = 10 - i
+μ-loop idx rec i₀ i = maxRecords - i
 
 loop-holds : tie.Need-loop-holds Inv-loop μ-loop
 loop-holds c = (omega arith, find-start _ _)

@@ -1,3 +1,4 @@
+use Rattle.file_table.specs.Table.{maxFiles}
 use Rattle.loops.specs.Marks.{Marks, marks-none, marks-keep, marks-put}
 use Rattle.fat_sectors.specs.Fat.{fatWrite, freedBy}
 use Rattle.fat_sectors.specs.FatLaws.{freedBy-lt}
@@ -10,13 +11,13 @@ use Rattle.fat_sectors.proofs.sectors.freed_rows.Statement.{statement}
 use Rattle.fat_sectors.proofs.sectors.freed_rows.Tie as tie
 
 abbrev Inv-loop : tie.InvT-loop
-Inv-loop ids starts sizes sorted first pair s g d rows₀ i₀ rows i = (i ≤ 256) × (length rows ≡ 400) × Marks (freedBy (fatWrite ids starts sizes first pair s g d)) 400 i rows
+Inv-loop ids starts sizes sorted first pair s g d rows₀ i₀ rows i = (i ≤ 256) × (length rows ≡ maxFiles) × Marks (freedBy (fatWrite ids starts sizes first pair s g d)) maxFiles i rows
 
 abbrev μ-loop : tie.MeasureT-loop
 μ-loop ids starts sizes sorted first pair s g d rows₀ i₀ rows i = 256 - i
 
 loop-holds : tie.Need-loop-holds Inv-loop μ-loop
-loop-holds c = (omega arith, length-replicate {A = ℕ} 400 0, marks-none _ 400)
+loop-holds c = (omega arith, length-replicate {A = ℕ} maxFiles 0, marks-none _ maxFiles)
 
 freed-by-requires : tie.Need-freed-by-requires Inv-loop μ-loop
 freed-by-requires c κs = (c .before .before .before .before .before .before .before .pre, c .loop-test .taken)

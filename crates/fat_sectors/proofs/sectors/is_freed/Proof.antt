@@ -1,3 +1,4 @@
+use Rattle.file_table.specs.Table.{maxFiles}
 use Rattle.loops.specs.Marks.{marked}
 use Rattle.fat_sectors.specs.Fat.{freedOwner, freesRow}
 use mathlib.Core.Path.{sym, _∙_}
@@ -41,7 +42,7 @@ returns-2 c = simp (sym (c .before .before .owner .ensures) ∙ c .enum-told2 .g
 
 returns-3 : tie.Need-returns-3
 unfolding freedOwner freesRow
-returns-3 c = let l = owner-is _ _ _ _ _ (sym (c .before .before .before .before .owner .ensures) ∙ c .before .before .j .given .1) .row in simp (sym (c .before .before .before .before .owner .ensures) ∙ c .before .before .j .given .1) (marked _ 400 256 _ (c .before .before .before .before .before .before .before .before .before .before .before .pre .1) _ (omega (arith, l, c .before .before .before .before .before .before .before .before .before .before .before .pre .0 .0 .few, c .before .before .before .before .before .before .before .before .before .before .before .pre .0 .0 .ids-starts)))
+returns-3 c = let l = owner-is _ _ _ _ _ (sym (c .before .before .before .before .owner .ensures) ∙ c .before .before .j .given .1) .row in simp (sym (c .before .before .before .before .owner .ensures) ∙ c .before .before .j .given .1) (marked _ maxFiles 256 _ (c .before .before .before .before .before .before .before .before .before .before .before .pre .1) _ (omega (arith, l, c .before .before .before .before .before .before .before .before .before .before .before .pre .0 .0 .few, c .before .before .before .before .before .before .before .before .before .before .before .pre .0 .0 .ids-starts)))
 
 returns-4 : tie.Need-returns-4
 unfolding freedOwner

@@ -10,10 +10,10 @@ use Rattle.medium.proofs.reads.moved_ref.Tie as tie
 use Rattle.medium.proofs.reads.moved_ref.Reads as reads
 
 abbrev Inv-loop : tie.InvT-loop
-Inv-loop fat area start size st i₀ i = (i ≤ 28) × (some (λ k. slotNames fat area (getD st k noSt) start size) maxSlots 0 ≡ some (λ k. slotNames fat area (getD st k noSt) start size) (maxSlots - i) i)
+Inv-loop fat area start size st i₀ i = (i ≤ maxSlots) × (some (λ k. slotNames fat area (getD st k noSt) start size) maxSlots 0 ≡ some (λ k. slotNames fat area (getD st k noSt) start size) (maxSlots - i) i)
 
 abbrev μ-loop : tie.MeasureT-loop
-μ-loop fat area start size st i₀ i = 28 - i
+μ-loop fat area start size st i₀ i = maxSlots - i
 
 loop-holds : tie.Need-loop-holds Inv-loop μ-loop
 loop-holds c = (omega arith, some-start _ _)
