@@ -2,3 +2,7 @@
 pub mod Blocks
 pub mod Staging
 pub mod BlockLaws
+pub mod AreaLaws
+pub mod CopyLaws
+pub mod FillLaws
+pub mod MoveLaws

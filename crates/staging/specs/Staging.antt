@@ -35,6 +35,10 @@ pub record StageWrite : Type 0 where
   pub starts : List ℕ
   pub sizes : List ℕ
 
+abbrev pub stageWrite : ℕ → ℕ → List ℕ → Bool → List ℕ → List ℕ → List ℕ → List ℕ → List ℕ → StageWrite
+stageWrite c s written busy fat area ids starts sizes =
+    record { c = c; s = s; written = written; busy = busy; fat = fat; area = area; ids = ids; starts = starts; sizes = sizes }
+
 -- The refusal number, 0 where it is taken; whether that opens the session; the state, the data area and the ids then.
 pub record Staged : Type 0 where
   pub number : ℕ

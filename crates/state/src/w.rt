@@ -94,6 +94,12 @@ pub struct Judged {
     pub w: W,
 }
 
+// What a call answers: the refusal number, 0 where it was taken, and the state then.
+pub struct Answer {
+    pub no: u8,
+    pub w: W,
+}
+
 // The state as it first stands, with the first session cluster.
 pub fn initial_state(first: u32) -> W
     ensures { λ r. ⌜ r ≡ initial first ⌝ }

@@ -1,0 +1,164 @@
+-- What a taken sector changes, place by place, and that nothing else does (document 01, "Judging a sector"). o is how `classify` judged it.
+use Prim.Native.Nat.{ℕ, _+_, _-_, _*_, _<_}
+use mathlib.Core.Bool.{Bool, true, false, not, _&&_}
+use mathlib.Core.List.{List}
+use mathlib.Core.Path.{_≡_}
+use lib.Dec.{leb, ltb, eqb}
+use lib.ListN.{length, getD, take, drop}
+use Rattle.loops.specs.Loops.{pick, some}
+use Rattle.loops.specs.Rows.{rows}
+use Rattle.loops.specs.declared.Found.the-variants.{At, Nothing}
+use Rattle.num.specs.Num.{wrappingNext}
+use Rattle.bits.specs.Bit.{setBit}
+use Rattle.sector.specs.Bytes.{zeros}
+use Rattle.vdisk.specs.Drive.{dirKindOf}
+use Rattle.vdisk.specs.Ids.{turned}
+use Rattle.vdisk.specs.declared.drive.Place.{Place}
+use Rattle.vdisk.specs.declared.drive.Place.the-variants.{Boot, Fat, Root, Data, Outside}
+use Rattle.vdisk.specs.declared.drive.DirKind.{DirKind}
+use Rattle.vdisk.specs.declared.drive.DirKind.the-variants.{Kind, NoDir}
+use Rattle.slots.specs.Slots.{refersTo}
+use Rattle.records.specs.Records.{maxRecords, rootRec}
+use Rattle.state.specs.State.{maxPairs, maxSlots, noSt}
+use Rattle.state.specs.Setters.{withBoot, withFat1, withRec, withPair, withSt, withStaging, withStageT, withHint, withVer}
+use Rattle.state.specs.Pairs.{pairOf}
+use Rattle.state.specs.Staged.{slotOf}
+use Rattle.state.specs.LookupLaws.{NoTwice, NoSlotTwice}
+use Rattle.state.specs.declared.w.St.{St}
+use Rattle.state.specs.declared.w.W.{W}
+use Rattle.state.specs.declared.pairs.PairOf.{PairOf}
+use Rattle.state.specs.declared.pairs.PairOf.the-variants.{Value, NoPair}
+use Rattle.medium.specs.Medium.{nextFree}
+use Rattle.medium.specs.Reads.{movedRef}
+use Rattle.fat_sectors.specs.Fat.{FatWrite, clusterAt, valueAt, changedAt, ownerAt, freesRow, freedOwner}
+use Rattle.dir_sectors.specs.Dir.{turnsRow}
+use Rattle.root_sectors.specs.Root.{RootWrite, slotAt, keptAt}
+use Rattle.staging.specs.Blocks.{heldFor, filledBlock, areaWith, holdingSt, writtenSt}
+use Rattle.judge.specs.Classify.{SectorWrite, Outcome, fatOf, rootOf, dirOf}
+use Rattle.write.specs.Write.{Written, takenState}
+use Rattle.demand1.specs.Admits.{slotPlace, slotBefore, needsBlock, takesNone, hintOf, isHost, asShown}
+
+-- a state as a session has it: 40 pair places, 10 records and 28 staging slots, and no cluster with two pairs or two staging slots
+pub record Sound (w : W) : Type 0 where
+  pub pairs : length (w .pair) ≡ maxPairs
+  pub recs : length (w .rec) ≡ maxRecords
+  pub slots : length (w .st) ≡ maxSlots
+  pub one-pair : NoTwice (w .pair)
+  pub one-slot : NoSlotTwice (w .st)
+
+-- w with these staging slots and this hint, staging on, and its time set to the clock
+unfoldable pub stagingState : W → List St → ℕ → W
+stagingState w ss hint = withHint (withStageT (withStaging (withSt w ss) true) (w .«now_ms»)) hint
+
+-- "sets the last time to the clock, at least 1, adds to the taken count, which goes round, and opens the session unless .."
+pub record Taken (r : Written) (o : Outcome) : Type 0 where
+  pub state : r .w ≡ takenState (o .w) (o .changed)
+  pub ids : r .ids ≡ o .ids
+  pub area : r .area ≡ o .area
+
+-- ".. the sector was accepted unchanged or nothing but dropped dates changed"
+pub record Same (x : SectorWrite) (w : W) (o : Outcome) : Type 0 where
+  pub state : o .w ≡ w
+  pub ids : o .ids ≡ x .ids
+  pub area : o .area ≡ x .area
+
+-- Boot: "only byte 0x25 may differ; it is kept"
+pub record BootOnly (x : SectorWrite) (w : W) (o : Outcome) : Type 0 where
+  pub state : o .w ≡ withBoot w (getD (x .written) 0x25 0)
+  pub ids : o .ids ≡ x .ids
+  pub area : o .area ≡ x .area
+
+-- FAT: "FAT[1] and pairs are set, 0 removes the pair and its staging slot, and files are marked freed", by changed entries of this sector alone
+unfoldable pub entryChanged : FatWrite → ℕ → Bool
+entryChanged f k = some (λ i. changedAt f i && eqb (clusterAt f i) k) 256 0
+
+-- entry i, changed, from w to v; where the sector frees its file, its pair is left
+unfoldable pub pairAs : ℕ → PairOf
+pairAs v = pick (eqb v 0) NoPair (Value v)
+
+pub record EntrySet (f : FatWrite) (w v : W) (i : ℕ) : Type 0 where
+  pub fat1 : clusterAt f i ≡ 1 → v .fat1 ≡ valueAt f i + 65536
+  pub pair : (clusterAt f i ≡ 1 → ⊥) → freedOwner f (ownerAt f i) ≡ false → pairOf (v .pair) (clusterAt f i) ≡ pairAs (valueAt f i)
+  pub slot : (clusterAt f i ≡ 1 → ⊥) → freedOwner f (ownerAt f i) ≡ false → valueAt f i ≡ 0
+      → (u : ℕ) → pairOf (w .pair) (clusterAt f i) ≡ Value u → slotOf (v .st) (clusterAt f i) ≡ Nothing
+
+pub record FatOnly (x : SectorWrite) (w : W) (s : ℕ) (o : Outcome) : Type 0 where
+  pub state : o .w ≡ withFat1 (withPair (withSt w (o .w .st)) (o .w .pair)) (o .w .fat1)
+  pub sets : Sound w → (i : ℕ) → i < 256 → changedAt (fatOf x w s) i ≡ true → EntrySet (fatOf x w s) w (o .w) i
+  pub fat1 : entryChanged (fatOf x w s) 1 ≡ false → o .w .fat1 ≡ w .fat1
+  pub pairs : (k : ℕ) → entryChanged (fatOf x w s) k ≡ false → pairOf (o .w .pair) k ≡ pairOf (w .pair) k
+  pub slots : (i : ℕ) → entryChanged (fatOf x w s) (getD (w .st) i noSt .c) ≡ false → getD (o .w .st) i noSt ≡ getD (w .st) i noSt
+  pub ids : o .ids ≡ rows (λ j id. pick (freesRow (fatOf x w s) j) (setBit id 13) id) (x .ids)
+  pub area : o .area ≡ x .area
+
+-- Root: the records of changed host slots of this sector, and no others
+unfoldable pub slotKept : RootWrite → ℕ → Bool
+slotKept f k = some (λ i. keptAt f i && eqb (slotAt f i) k) 16 0
+
+pub record RootOnly (x : SectorWrite) (w : W) (s : ℕ) (o : Outcome) : Type 0 where
+  pub state : o .w ≡ withRec w (o .w .rec)
+  pub keeps : Sound w → (i : ℕ) → i < 16 → keptAt (rootOf x w s) i ≡ true
+      → rootRec (o .w .rec) (slotAt (rootOf x w s) i) ≡ record { found = true; e = take 32 (drop (i * 32) (x .written)) }
+  pub recs : (k : ℕ) → slotKept (rootOf x w s) k ≡ false → rootRec (o .w .rec) k ≡ rootRec (w .rec) k
+  pub ids : o .ids ≡ x .ids
+  pub area : o .area ≡ x .area
+
+-- Directory k: a turn "marks it turned, and moved if a staged sector already names it"
+pub record DirOnly (x : SectorWrite) (w : W) (k s : ℕ) (o : Outcome) : Type 0 where
+  pub state : o .w ≡ w
+  pub ids : o .ids
+      ≡ rows (λ j id. pick (turnsRow (dirOf x k s) j)
+      (pick (movedRef (x .fat) (x .area) (w .st) (getD (x .starts) j 0) (getD (x .sizes) j 0)) (setBit (setBit id 12) 15) (setBit id 12))
+      id) (x .ids)
+  pub area : o .area ≡ x .area
+
+-- Staging, sector s of host cluster c: the block that it goes to, the one held, or "the first FAT entry of 0 from the hint if there is no block
+-- or it is parked"
+unfoldable pub blockTo : SectorWrite → W → ℕ → ℕ → ℕ
+blockTo x w c s = pick (needsBlock (slotBefore w c) s) (nextFree (x .fat) (hintOf w) .block) (heldFor (slotBefore w c) s)
+
+-- byte k of the data area is one of block b's
+unfoldable pub inBlock : ℕ → ℕ → Bool
+inBlock b k = leb ((b - 2) * 4096) k && ltb k ((b - 2) * 4096 + 4096)
+
+-- the cluster's slot, the version, staging, its time and the hint; of the data area that block; "non-zero data marks turned files that it names
+-- as moved"
+pub record StageOnly (x : SectorWrite) (w : W) (c s : ℕ) (o : Outcome) : Type 0 where
+  pub state : o .w ≡ withVer (stagingState w (o .w .st) (o .w .hint)) (wrappingNext (w .ver))
+  pub slots : (i : ℕ) → (slotPlace (w .st) c ≡ At i → ⊥) → getD (o .w .st) i noSt ≡ getD (w .st) i noSt
+  pub slot : Sound w → (i : ℕ) → slotPlace (w .st) c ≡ At i → getD (o .w .st) i noSt
+      ≡ pick (takesNone x (slotBefore w c) s) (writtenSt (slotBefore w c) s) (holdingSt (slotBefore w c) s (blockTo x w c s))
+  pub ids : o .ids
+      ≡ rows (λ j id. pick (not (zeros (x .written)) && turned id && refersTo (x .written) (getD (x .starts) j 0) (getD (x .sizes) j 0)) (setBit id 15) id) (x .ids)
+  pub area : o .area
+      ≡ pick (takesNone x (slotBefore w c) s) (x .area) (areaWith (x .area) (blockTo x w c s) (filledBlock (x .area) (slotBefore w c) s (x .written)))
+  pub bytes : (k : ℕ) → inBlock (blockTo x w c s) k ≡ false → getD (o .area) k 0 ≡ getD (x .area) k 0
+  pub long : length (o .area) ≡ length (x .area)
+
+-- a host cluster's sector is staged, be it equal to the shown one or not
+unfoldable pub inHost : SectorWrite → W → ℕ → DirKind → Bool
+inHost x w c (Kind k) = false
+inHost x w c NoDir = isHost x w c
+
+unfoldable pub isStaged : SectorWrite → W → Place → Bool
+isStaged x w Boot = false
+isStaged x w (Fat s) = false
+isStaged x w (Root s) = false
+isStaged x w (Data c s) = inHost x w c (dirKindOf c)
+isStaged x w Outside = false
+
+abbrev pub differs : SectorWrite → Type 0
+differs x = asShown x ≡ false
+
+-- what a taken sector changes in its cluster; other data is never taken unless it is as shown
+unfoldable pub InCluster : SectorWrite → W → ℕ → ℕ → Outcome → DirKind → Type 0
+InCluster x w c s o (Kind k) = differs x → DirOnly x w k s o
+InCluster x w c s o NoDir = (isHost x w c ≡ true → o .changed ≡ true → StageOnly x w c s o) × (isHost x w c ≡ false → differs x → ⊥)
+
+-- what it changes by its place; none is taken outside the drive
+unfoldable pub AtPlace : SectorWrite → W → Outcome → Place → Type 0
+AtPlace x w o Boot = differs x → BootOnly x w o
+AtPlace x w o (Fat s) = differs x → FatOnly x w s o
+AtPlace x w o (Root s) = differs x → RootOnly x w s o
+AtPlace x w o (Data c s) = InCluster x w c s o (dirKindOf c)
+AtPlace x w o Outside = ⊥

@@ -1,0 +1,19 @@
+-- Demand 1: which sectors are admitted, what they change, the statement over the definition of a whole call, and its proof.
+pub mod Admits
+pub mod Changes
+pub mod Demand1
+pub mod Turns
+pub mod Room
+pub mod Area
+pub mod Fair
+pub mod StageFair
+pub mod StageFrame
+pub mod AdmitLaws
+pub mod FatFrame
+pub mod FatSets
+pub mod RootFrame
+pub mod RootSets
+pub mod DirFrame
+pub mod Soundness
+pub mod Judged
+pub mod Theorem

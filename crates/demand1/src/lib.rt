@@ -1,0 +1,1 @@
+// Demand 1, over the definitions: nothing runs here.

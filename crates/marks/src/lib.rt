@@ -1,0 +1,1 @@
+// What a write does to a file's marks, over the definitions: nothing runs here.
