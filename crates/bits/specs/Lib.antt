@@ -1,3 +1,4 @@
 -- Bits of a number, and their laws.
 pub mod Bit
 pub mod Laws
+pub mod Xor

@@ -1,0 +1,3 @@
+-- The update file's CRC.
+pub mod Crc
+pub mod CrcLaws
