@@ -1,0 +1,130 @@
+-- Demand 3 as a statement.
+use Prim.Native.Nat.{ℕ}
+use mathlib.Core.Bool.{Bool, false, not, _&&_, _||_, So}
+use mathlib.Core.List.{List, [], _∷_}
+use mathlib.Core.Path.{_≡_}
+use lib.Dec.{eqb}
+use lib.ListN.{replicate}
+use Rattle.loops.specs.Loops.{pick}
+use Rattle.vdisk.specs.Ids.{handed, unmarked}
+use Rattle.file_table.specs.Table.{Table}
+use Rattle.records.specs.Records.{maxRecords, rec0}
+use Rattle.state.specs.State.{maxPairs, maxSlots, pair0, st0, initial}
+use Rattle.state.specs.declared.w.St.{St}
+use Rattle.state.specs.declared.w.W.{W}
+use Rattle.medium.specs.Reads.{movedRef}
+use Rattle.marks.specs.Seen.{startIn, sizeIn, turnsSlot, zeroesEntries}
+use Rattle.demand3.specs.Step.{Session, Outcome, Medium, Call, write, poll, release, releaseAll, busReset, resetMode, setReadOnly, report, refusedStart, sectorOf, step, idOf}
+
+-- one call, the session that it met, and what came of it
+pub record Event : Type 0 where
+  pub call : Call
+  pub before : Session
+  pub out : Outcome
+
+unfoldable pub event : Table → Call → Session → Event
+event t c s = record { call = c; before = s; out = step t c s }
+
+-- the session as the last call left it, and the calls so far, the latest first
+pub record History : Type 0 where
+  pub session : Session
+  pub trace : List Event
+
+abbrev pub next : Table → History → Call → History
+next t h c = record { session = event t c (h .session) .out .after; trace = event t c (h .session) ∷ h .trace }
+
+unfoldable pub run : Table → History → List Call → History
+run t h [] = h
+run t h (c ∷ cs) = run t (next t h c) cs
+
+-- "from a start that took its table", which sets the state anew
+abbrev pub begun : Table → History
+begun t = record { session = record { w = initial (t .first); ids = t .ids }; trace = [] }
+
+-- a completed release that left row j unmarked: bits 12 to 15 are 0 in the table that it left
+abbrev pub unmarks : ℕ → Event → Bool
+unmarks j e = e .out .released && unmarked (idOf (e .out .after) j)
+
+-- the calls "since the start or the release that last left it unmarked"
+unfoldable pub since : ℕ → List Event → List Event
+since j [] = []
+since j (e ∷ es) = pick (unmarks j e) [] (e ∷ since j es)
+
+unfoldable pub anyOf : (Event → Bool) → List Event → Bool
+anyOf p [] = false
+anyOf p (e ∷ es) = p e || anyOf p es
+
+-- What a call holds of file j, where st are the staging slots that it meets: a turn of its slot; its entries zeroed; a staged sector naming it,
+-- as the medium of the call stands; a report of it. Read off the sectors shown, written and staged, never off a mark.
+pub record Seen : Type 0 where
+  pub turned : Bool
+  pub zeroed : Bool
+  pub named : Bool
+  pub gone : Bool
+
+abbrev pub nothing : Seen
+nothing = record { turned = false; zeroed = false; named = false; gone = false }
+
+abbrev pub ofStaged : Table → ℕ → List St → Medium → Seen
+ofStaged t j st m = record { turned = false; zeroed = false; named = movedRef (m .fat) (m .area) st (startIn t j) (sizeIn t j); gone = false }
+
+abbrev pub seen : Table → ℕ → Session → Call → Seen
+seen t j s (write x busy m) =
+    record { turned = turnsSlot t j (sectorOf t s x busy m); zeroed = zeroesEntries t j (sectorOf t s x busy m); named = false; gone = false }
+seen t j s (poll clock mounted m) = ofStaged t j (s .w .st) m
+seen t j s (release m) = ofStaged t j (s .w .st) m
+seen t j s (releaseAll reset m) = ofStaged t j (s .w .st) m
+seen t j s (busReset m) = ofStaged t j (s .w .st) m
+seen t j s resetMode = nothing
+seen t j s (setReadOnly on) = nothing
+seen t j s (report i) = record { turned = false; zeroed = false; named = false; gone = eqb i j }
+seen t j s (refusedStart other e) = nothing
+
+abbrev pub seenIn : Table → ℕ → Event → Seen
+seenIn t j e = seen t j (e .before) (e .call)
+
+-- by a call that was taken; at a release that ran to its end
+abbrev pub isTaken : Event → Bool
+isTaken e = eqb (e .out .number) 0
+
+abbrev pub turnedBy : Table → ℕ → Event → Bool
+turnedBy t j e = isTaken e && seenIn t j e .turned
+
+abbrev pub zeroedBy : Table → ℕ → Event → Bool
+zeroedBy t j e = isTaken e && seenIn t j e .zeroed
+
+abbrev pub namedBy : Table → ℕ → Event → Bool
+namedBy t j e = e .out .released && seenIn t j e .named
+
+abbrev pub goneBy : Table → ℕ → Event → Bool
+goneBy t j e = isTaken e && seenIn t j e .gone
+
+abbrev pub lately : ℕ → History → List Event
+lately j h = since j (h .trace)
+
+abbrev pub turnedIn : Table → ℕ → List Event → Bool
+turnedIn t j es = anyOf (turnedBy t j) es
+
+abbrev pub zeroedIn : Table → ℕ → List Event → Bool
+zeroedIn t j es = anyOf (zeroedBy t j) es
+
+abbrev pub namedIn : Table → ℕ → List Event → Bool
+namedIn t j es = anyOf (namedBy t j) es
+
+abbrev pub goneIn : Table → ℕ → List Event → Bool
+goneIn t j es = anyOf (goneBy t j) es
+
+pub record Demand3 (t : Table) (j : ℕ) (h : History) : Type 0 where
+  -- "handed to deletion only if, since .., an accepted write turned its directory slot .., and either an accepted FAT write zeroed all its
+  -- entries in that sector, one shown non-zero, or at a release a staged sector held an ordinary slot with its start and length"
+  pub safe : So (handed (idOf (h .session) j)) → So (turnedIn t j (lately j h)) × So (zeroedIn t j (lately j h) || namedIn t j (lately j h))
+  -- "A file turned and zeroed so, and not reported gone since that start or release, is handed"
+  pub complete : So (turnedIn t j (lately j h)) → So (zeroedIn t j (lately j h)) → So (not (goneIn t j (lately j h))) → So (handed (idOf (h .session) j))
+
+-- "a completed release leaves no pair, record, staged cluster, boot byte or FAT[1] of the session"
+pub record Clean (w : W) : Type 0 where
+  pub pair : w .pair ≡ replicate maxPairs pair0
+  pub rec : w .rec ≡ replicate maxRecords rec0
+  pub st : w .st ≡ replicate maxSlots st0
+  pub boot : w .boot ≡ 0
+  pub fat1 : w .fat1 ≡ 0

@@ -1,0 +1,102 @@
+-- The induction over the list of calls, from what one call does to a row's marks.
+use Prim.Native.Nat.{ℕ, _<_}
+use mathlib.Core.Bool.{Bool, true, false, not, _&&_, _||_, true≢false, false≢true}
+use mathlib.Core.List.{List, [], _∷_}
+use mathlib.Core.Path.{_≡_, refl, sym, _∙_, ap}
+use lib.ListN.{length}
+use Rattle.loops.specs.Loops.{pick}
+use Rattle.loops.specs.Choices.{and-0, and-1}
+use Rattle.vdisk.specs.Ids.{turned, freed, gone, moved, handed, unmarked}
+use Rattle.file_table.specs.Table.{Table}
+use Rattle.demand3.specs.Step.{Session, Call, idOf}
+use Rattle.demand3.specs.History.{Event, History, event, next, run, since, anyOf, unmarks, turnedBy, zeroedBy, namedBy, goneBy, Demand3}
+
+-- What one event does to row j that it doesn't unmark.
+pub record Effect (t : Table) (j : ℕ) (e : Event) : Type 0 where
+  pub turn : unmarks j e ≡ false → turned (idOf (e .out .after) j) ≡ (turnedBy t j e || turned (idOf (e .before) j))
+  pub free : unmarks j e ≡ false → freed (idOf (e .out .after) j) ≡ true → (zeroedBy t j e || namedBy t j e || freed (idOf (e .before) j)) ≡ true
+  pub keep : unmarks j e ≡ false → (zeroedBy t j e || freed (idOf (e .before) j)) ≡ true → freed (idOf (e .out .after) j) ≡ true
+  pub left : unmarks j e ≡ false → gone (idOf (e .out .after) j) ≡ (goneBy t j e || gone (idOf (e .before) j))
+
+-- What the marks of row j say of the calls since.
+pub record Told (t : Table) (j id : ℕ) (es : List Event) : Type 0 where
+  pub turn : turned id ≡ anyOf (turnedBy t j) es
+  pub free : freed id ≡ true → (anyOf (zeroedBy t j) es || anyOf (namedBy t j) es) ≡ true
+  pub keep : anyOf (zeroedBy t j) es ≡ true → freed id ≡ true
+  pub left : gone id ≡ anyOf (goneBy t j) es
+
+not-no : (a : Bool) → not a ≡ true → a ≡ false
+not-no true e = sym e
+not-no false e = refl
+
+or-4 : (a b c z n : Bool) → (a || b || c) ≡ true → (c ≡ true → (z || n) ≡ true) → ((a || z) || (b || n)) ≡ true
+or-4 true b c z n e f = refl
+or-4 false true true true n e f = refl
+or-4 false true true false n e f = refl
+or-4 false true false true n e f = refl
+or-4 false true false false n e f = refl
+or-4 false false true z n e f = f e
+or-4 false false false z n e f = absurd (false≢true e)
+
+or-in : (a b c : Bool) → (a || b) ≡ true → (b ≡ true → c ≡ true) → (a || c) ≡ true
+or-in true b c e f = refl
+or-in false b c e f = f e
+
+-- an unmarked row tells nothing
+pub told-none : (t : Table) (j id : ℕ) → unmarked id ≡ true → Told t j id []
+unfolding anyOf unmarked
+told-none t j id u =
+    let a = and-0 (not (turned id) && not (freed id) && not (gone id)) (not (moved id)) u in
+    let b = and-0 (not (turned id) && not (freed id)) (not (gone id)) a in
+    record {
+      turn = not-no (turned id) (and-0 (not (turned id)) (not (freed id)) b);
+      free = λ e. absurd (true≢false (sym e ∙ not-no (freed id) (and-1 (not (turned id)) (not (freed id)) b)));
+      keep = λ e. absurd (false≢true e);
+      left = not-no (gone id) (and-1 (not (turned id) && not (freed id)) (not (gone id)) a);
+    }
+
+module _ (t : Table) (j : ℕ) (e : Event) (es : List Event) (f : Effect t j e) (h : Told t j (idOf (e .before) j) (since j es)) where
+  told-by : (b : Bool) → unmarks j e ≡ b → Told t j (idOf (e .out .after) j) (pick b [] (e ∷ since j es))
+  unfolding anyOf
+  told-by true u = told-none t j (idOf (e .out .after) j) (and-1 (e .out .released) (unmarked (idOf (e .out .after) j)) u)
+  told-by false u =
+      record {
+        turn = f .turn u ∙ ap (λ (b : Bool). turnedBy t j e || b) (h .turn);
+        free = λ q. or-4 (zeroedBy t j e) (namedBy t j e) _ _ _ (f .free u q) (h .free);
+        keep = λ q. f .keep u (or-in (zeroedBy t j e) _ _ q (h .keep));
+        left = f .left u ∙ ap (λ (b : Bool). goneBy t j e || b) (h .left);
+      }
+
+  told-next : Told t j (idOf (e .out .after) j) (since j (e ∷ es))
+  unfolding since
+  told-next = told-by (unmarks j e) refl
+
+-- the whole: a property of sessions that every call keeps, and that gives each call's effect
+module _ (t : Table) (Good : Session → Type 0)
+    (good : (c : Call) (s : Session) → Good s → Good (event t c s .out .after))
+    (effect : (c : Call) (s : Session) → Good s → (j : ℕ) → j < length (t .ids) → Effect t j (event t c s)) where
+  pub told-run : (j : ℕ) → j < length (t .ids) → (cs : List Call) (h : History) → Good (h .session) → Told t j (idOf (h .session) j) (since j (h .trace))
+      → Told t j (idOf (run t h cs .session) j) (since j (run t h cs .trace))
+  unfolding run event
+  told-run j l [] h g k = k
+  told-run j l (c ∷ cs) h g k =
+      told-run j l cs (next t h c) (good c (h .session) g) (told-next t j (event t c (h .session)) (h .trace) (effect c (h .session) g j l) k)
+
+  pub good-run : (cs : List Call) (h : History) → Good (h .session) → Good (run t h cs .session)
+  unfolding run event
+  good-run [] h g = g
+  good-run (c ∷ cs) h g = good-run cs (next t h c) (good c (h .session) g)
+
+-- what is told is demand 3
+handed-of : (a b c : Bool) → a ≡ true → b ≡ true → c ≡ false → (a && b && not c) ≡ true
+handed-of a b c p q r = rw (p, q, r)
+
+pub told-demand : (t : Table) (j : ℕ) (h : History) → Told t j (idOf (h .session) j) (since j (h .trace)) → Demand3 t j h
+unfolding handed
+told-demand t j h k =
+    let id = idOf (h .session) j in
+    record {
+      safe = λ e. let a = and-0 (turned id && freed id) (not (gone id)) e in
+          (sym (k .turn) ∙ and-0 (turned id) (freed id) a, k .free (and-1 (turned id) (freed id) a));
+      complete = λ p q r. handed-of (turned id) (freed id) (gone id) (k .turn ∙ p) (k .keep q) (k .left ∙ not-no _ r);
+    }

@@ -1,0 +1,7 @@
+-- Demand 3: one theorem about every list of calls.
+pub mod Step
+pub mod History
+pub mod Induct
+pub mod Ends
+pub mod Releases
+pub mod Theorem

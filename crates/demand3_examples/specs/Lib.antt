@@ -1,0 +1,2 @@
+-- One file in lists of calls, computed.
+pub mod Example

@@ -1,0 +1,1 @@
+// One file in lists of calls, computed. Nothing runs.

@@ -1,0 +1,4 @@
+-- How a session is released.
+pub mod Undecided
+pub mod Release
+pub mod ReleaseLaws
