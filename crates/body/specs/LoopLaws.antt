@@ -118,8 +118,8 @@ module _ (fat area : List ℕ) (st : List St) (ch : Chain) (size : ℕ) (h : Hol
       pub head-inside : 128 ≤ size → q * 128 ≡ 0 → 12 ≤ length (take k (drop (q % 4 * 128) (take (q % 4 * 128) s ++ (d ++ drop k (drop (q % 4 * 128) s)))))
       head-inside g z = let n = d-length in rw part-back (omega arith)
 
-      rest-next : (q % 4 ≡ 3 → ⊥) → drop (q % 4 * 128 + 128) (take (q % 4 * 128) s ++ (d ++ drop k (drop (q % 4 * 128) s))) ≡ drop (q % 4 * 128 + 128) (chainSector fat area st ch (q / 4))
-      rest-next r =
+      rest-next : drop (q % 4 * 128 + 128) (take (q % 4 * 128) s ++ (d ++ drop k (drop (q % 4 * 128) s))) ≡ drop (q % 4 * 128 + 128) (chainSector fat area st ch (q / 4))
+      rest-next =
           let a = q % 4 * 128 in
           let z : q % 4 * 128 + (k + (128 - k)) ≡ q % 4 * 128 + 128 = omega arith in
           (rw z at (part-after s d a k (128 - k) (omega arith) d-length))
@@ -136,7 +136,7 @@ module _ (fat area : List ℕ) (st : List St) (ch : Chain) (size : ℕ) (h : Hol
                 ∙ rw (add-one q) (ap sumOf (ap (λ (u : List ℕ). joined g q ++ u) w ∙ sym (joined-more g q)));
             rest = λ r. (let x : (q + 1) % 4 * 128 ≡ q % 4 * 128 + 128 = omega arith in
                 let y : (q + 1) / 4 ≡ q / 4 = omega arith in
-                rw (x, y) (rest-next (λ v. omega arith)));
+                rw (x, y) rest-next);
           }
 
   -- all blocks decode

@@ -1,6 +1,7 @@
 // The update file's CRC.
 ghost use mathlib.Core.Path.{_≡_};
 ghost use Rattle.crc.specs.Crc.{crcByte, crcOf};
+ghost use Rattle.crc.specs.CrcLaws.{table};
 
 // The CRC of each byte after 0, so that eight bits are one step.
 const TABLE: [u16; 256] = [
@@ -262,21 +263,23 @@ const TABLE: [u16; 256] = [
     0x0202,
 ];
 
-fn crc_byte(c: u16, b: u8) -> u16
+fn crc_byte(entries: &[u16], c: u16, b: u8) -> u16
+    requires { ⌜ now entries ≡ table ⌝ }
     ensures { λ r. ⌜ r ≡ crcByte c b ⌝ }
 {
     let i = (c / 256) as u8 ^ b;
-    (c % 256 * 256) ^ TABLE[i as usize]
+    (c % 256 * 256) ^ entries[i as usize]
 }
 
-// The CRC of more bytes.
+// The CRC of more bytes. The table is copied once: read by name in the loop, it would be made anew for each byte.
 pub fn crc16_upd(c: u16, bytes: &[u8]) -> u16
     ensures { λ r. ⌜ r ≡ crcOf c (now (bytes .entry)) ⌝ }
 {
+    let entries = TABLE;
     let mut out = c;
     let mut i = 0;
     while i < bytes.len() {
-        out = crc_byte(out, bytes[i]);
+        out = crc_byte(&entries, out, bytes[i]);
         i += 1;
     }
     out

@@ -16,13 +16,14 @@ cast-result c = omega (arith, index-lt (c .args .c) (c .args .b) (omega arith) (
 mul-result-2 : tie.Need-mul-result-2
 mul-result-2 c = omega (arith, index-lt (c .args .c) (c .args .b) (omega arith) (omega arith))
 
-array-read-result : tie.Need-array-read-result
-array-read-result c = index-lt (c .args .c) (c .args .b) (omega arith) (omega arith)
+shared-slice-read-result : tie.Need-shared-slice-read-result
+unfolding table
+shared-slice-read-result c = rw (c .before .pre) (index-lt (c .before .args .c) (c .before .args .b) (omega arith) (omega arith))
 
 returns : tie.Need-returns
-unfolding table
-returns c = table-step _ _ (omega arith) (omega arith)
+returns c = rw (c .before .pre) (table-step _ _ (omega arith) (omega arith))
 
 pub crc-byte-spec : {M : Type 1} → statement M
 crc-byte-spec =
-    tie.close (tie.spec cast-i mul-result cast-result mul-result-2 array-read-result returns)
+    tie.close
+    (tie.spec cast-i mul-result cast-result mul-result-2 shared-slice-read-result returns)
