@@ -1,0 +1,3 @@
+-- The lent table of files.
+pub mod Files
+pub mod FilesLaws

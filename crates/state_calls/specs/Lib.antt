@@ -1,0 +1,3 @@
+-- The answers of the calls that only read.
+pub mod Answers
+pub mod AnswerLaws

@@ -1,0 +1,187 @@
+/* How written sectors of the mixer's USB drive are judged: the calls of libvwrite.a.
+ *
+ * The caller owns everything: the state, the table of files, the sectors, and the medium. A call reads and writes what it is lent only while it
+ * runs, keeps no pointer, and allocates nothing. What is passed by a pointer that is not const may be written; no two of those may overlap each
+ * other or anything that is read. A slice is a pointer and its number of elements, in that order; of 0 elements the pointer is not null and is aligned, and is
+ * not read. Every number of elements is taken; a wrong one is a refusal.
+ *
+ * Refusal numbers, 0 where there is none:
+ *    1  a sector isn't 512 bytes                    11  body check of a size under 128
+ *    2  a place past the drive's end                12  read-only
+ *    3  boot byte                                   13  part of a live file
+ *    4  FAT[0] or FAT[1]                            14  no pair is free
+ *    5  Reserved or Fixed cluster                   15  no record is free
+ *    6  host value                                  16  no staging slot is free
+ *    7  root slot 0 to 6                            17  medium
+ *    8  root slot not admitted                      18  no free block
+ *    9  directory slot                              19  busy
+ *   10  more than 400 files                         20  chain not complete
+ *                                                   21  gone reported of a row that isn't handed
+ */
+#ifndef VWRITE_H
+#define VWRITE_H
+
+#include <stdbool.h>
+#include <stddef.h>
+#include <stdint.h>
+
+#define VWRITE_NREC 10
+#define VWRITE_NPAIR 40
+#define VWRITE_NST 28
+#define VWRITE_BPC 8
+
+/* A file of the table. In id bits 0 to 9 are the number, 10 and 11 the kind; marks are 12 turned, 13 freed, 14 gone, 15 moved. slot is its
+ * directory slot, vstart its first cluster and vsize its size on the drive; src and ssize are those of the file that it is made from. */
+typedef struct {
+    uint16_t id;
+    uint16_t slot;
+    uint16_t vstart;
+    uint16_t src;
+    uint32_t ssize;
+    uint32_t vsize;
+} vwrite_file;
+
+/* The state of a session. Its fields are the library's: a caller only keeps it, and makes it by vwrite_initial. */
+typedef struct {
+    uint16_t slot;
+    uint8_t e[32];
+} vwrite_rec;
+
+typedef struct {
+    uint16_t c;
+    uint16_t v;
+} vwrite_pair_place;
+
+typedef struct {
+    uint16_t c;
+    bool sealed;
+    uint8_t ro;
+    uint64_t map;
+    uint16_t blk[VWRITE_BPC];
+} vwrite_st;
+
+typedef struct {
+    uint16_t slot;
+    uint16_t start;
+    uint32_t size;
+    uint32_t ver;
+} vwrite_done;
+
+typedef struct {
+    uint32_t ok;
+    uint32_t refused;
+    uint32_t busy;
+    uint32_t last_refused;
+    uint16_t deleted;
+    uint16_t fw_ok;
+    uint16_t fw_bad;
+} vwrite_stats;
+
+typedef struct {
+    bool rw;
+    bool want_rw;
+    uint8_t boot;
+    uint32_t fat1;
+    vwrite_rec rec[VWRITE_NREC];
+    vwrite_pair_place pair[VWRITE_NPAIR];
+    vwrite_st st[VWRITE_NST];
+    bool session;
+    bool locks;
+    uint64_t last;
+    uint64_t now_ms;
+    bool staging;
+    uint64_t stage_t;
+    uint32_t hint;
+    uint8_t err;
+    uint8_t fw;
+    vwrite_done done;
+    uint32_t ver;
+    uint64_t end_at;
+    uint8_t parks;
+    bool purged;
+    bool purge;
+    vwrite_stats n;
+    uint32_t first;
+} vwrite_state;
+
+/* The refusal number (1, 2), and whether the cluster is staged. */
+typedef struct {
+    uint8_t no;
+    bool staged;
+} vwrite_staged;
+
+/* The host's FAT entry of a cluster: is there one, and its value, 0 where there is none. */
+typedef struct {
+    bool found;
+    uint16_t v;
+} vwrite_pair_answer;
+
+/* The host's record in a root slot: is there one, and its bytes, zeros where there is none. */
+typedef struct {
+    bool found;
+    uint8_t e[32];
+} vwrite_root_record;
+
+/* A file's chain: is it complete, its staging slots in the file's order, and how many they are. */
+typedef struct {
+    bool found;
+    uint8_t slots[VWRITE_NST];
+    size_t n;
+} vwrite_chain;
+
+/* The refusal number (1, 2, 7), and whether the name is housekeeping. */
+typedef struct {
+    uint8_t no;
+    bool housekeeping;
+} vwrite_strict;
+
+/* The refusal number (10); then 0 Reserved, 1 Fixed, 2 a file, 3 Free; and the file's row, 0 where it is no file's. */
+typedef struct {
+    uint8_t no;
+    uint8_t owner;
+    size_t row;
+} vwrite_own;
+
+/* The directory that a cluster is: is it one, and its file kind (3 for INFO and DEBUG), 0 where it is none. */
+typedef struct {
+    bool found;
+    uint16_t kind;
+} vwrite_dir;
+
+/* A fresh state, with the first session cluster. Before the first call *w holds zeros. */
+void vwrite_initial(vwrite_state *w, uint32_t first);
+
+/* The sector written at lba is judged; shown is the one that the drive shows there. busy: the medium's bus is taken. The medium is fat, 3 to
+ * 65,526 entries, only read, and area, 4,096 bytes for each entry after the second. Answers the refusal number: 1 to 10, 12 to 19. */
+uint8_t vwrite_write(vwrite_state *w, vwrite_file *files, size_t nfiles, uint32_t lba, const uint8_t *shown, size_t nshown, const uint8_t *written,
+                     size_t nwritten, bool busy, const uint16_t *fat, size_t nfat, uint8_t *area, size_t narea);
+
+/* Sector s of the staged cluster c into out, 512 bytes, which stays as it is where the cluster is not staged. */
+vwrite_staged vwrite_staged_read(const vwrite_state *w, const uint16_t *fat, size_t nfat, const uint8_t *area, size_t narea, uint32_t c, uint32_t s,
+                                 uint8_t *out, size_t nout);
+
+vwrite_pair_answer vwrite_pair(const vwrite_state *w, uint32_t c);
+
+vwrite_root_record vwrite_root_rec(const vwrite_state *w, size_t slot);
+
+/* The boot byte; FAT[1] as the host wrote it, 65535 if it didn't; must the layout not change under the host. */
+uint8_t vwrite_boot_state(const vwrite_state *w);
+
+uint16_t vwrite_fat1(const vwrite_state *w);
+
+bool vwrite_frozen(const vwrite_state *w, bool mounted);
+
+/* The chain of an update file by its start and size. */
+vwrite_chain vwrite_complete(const vwrite_state *w, uint32_t start, uint32_t size);
+
+/* Is the strict long name of a root slot from 7 to 511 housekeeping; sector is the one that the slot is in. */
+vwrite_strict vwrite_strict_name(const vwrite_state *w, const uint8_t *sector, size_t nsector, size_t slot);
+
+/* Lookups in the drive's layout. */
+vwrite_own vwrite_owner(const vwrite_file *files, size_t nfiles, uint32_t first, uint32_t c);
+
+vwrite_dir vwrite_dir_kind(uint32_t c);
+
+uint32_t vwrite_nclus(uint32_t size);
+
+#endif
