@@ -25,7 +25,7 @@ pub record Told (t : Table) (j id : ℕ) (es : List Event) : Type 0 where
   pub keep : anyOf (zeroedBy t j) es ≡ true → freed id ≡ true
   pub left : gone id ≡ anyOf (goneBy t j) es
 
-not-no : (a : Bool) → not a ≡ true → a ≡ false
+pub not-no : (a : Bool) → not a ≡ true → a ≡ false
 not-no true e = sym e
 not-no false e = refl
 

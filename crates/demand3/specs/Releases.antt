@@ -2,7 +2,7 @@
 use Prim.Native.Nat.{ℕ, _%_, _<_}
 use mathlib.Core.Bool.{Bool, true, false, not, _&&_, _||_, true≢false}
 use mathlib.Core.List.{List}
-use mathlib.Core.Path.{_≡_, refl, sym, _∙_, ap}
+use mathlib.Core.Path.{_≡_, sym, _∙_, ap}
 use native.Mathlib.Omega.{arith}
 use lib.ListN.{length, getD}
 use Rattle.loops.specs.Loops.{pick}
@@ -21,7 +21,7 @@ use Rattle.marks.specs.KeptLaws.{kept-clear}
 use Rattle.release.specs.Release.{handedOn, releaseId, releasedIds}
 use Rattle.demand3.specs.Step.{Session, Medium, lent, idOf}
 use Rattle.demand3.specs.History.{Event, Clean, unmarks, turnedBy, zeroedBy, namedBy, goneBy}
-use Rattle.demand3.specs.Induct.{Effect}
+use Rattle.demand3.specs.Induct.{Effect, not-no}
 
 -- an id that stays handed
 abbrev handedId : ℕ → ℕ
@@ -47,10 +47,6 @@ module _ (id : ℕ) where
   cleared-unmarked : unmarked (cleared id) ≡ true
   unfolding unmarked
   cleared-unmarked = let v = cleared-marks id in rw (v .0, v .1, v .2, v .3)
-
-not-no : (a : Bool) → not a ≡ true → a ≡ false
-not-no true e = sym e
-not-no false e = refl
 
 module _ (t : Table) (s : Session) (m : Medium) (k : Kept t (s .ids) (s .w)) (j : ℕ) (l : j < length (t .ids)) where
   abbrev named : Bool
