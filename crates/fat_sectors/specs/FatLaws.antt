@@ -20,8 +20,9 @@ use Rattle.vdisk.specs.OwnerLaws.{owner-is}
 use Rattle.vdisk.specs.declared.owner.Own.{Own}
 use Rattle.vdisk.specs.declared.owner.Own.the-variants.{Reserved, Fixed, Dyn, Free}
 use Rattle.file_table.specs.Table.{inFile, maxFiles}
+use Rattle.state.specs.declared.w.W.{W}
 use Rattle.clusters.specs.Clusters.{isLive}
-use Rattle.fat_sectors.specs.Fat.{FatWrite, clusterAt, changedAt, zeroedAt, zeroesFile, ownerAt, entryNumber, refusedAt, needsPair, freedOwn, freedBy, freesRow, freeId}
+use Rattle.fat_sectors.specs.Fat.{FatWrite, clusterAt, changedAt, zeroedAt, zeroesFile, ownerAt, entryNumber, refusedAt, needsPair, freedOwn, freedBy, freesRow, freeId, applyAt}
 
 -- the entry of cluster c is written 0
 abbrev pub zeroOf : FatWrite → ℕ → Bool
@@ -107,3 +108,8 @@ unfolding freeId freesRow
 freed-ids x rows m l =
     rows-same (λ j id. pick (eqb (getD rows j 0) 1) (setBit id 13) id) (freeId x) (x .ids)
     (λ j id h. ap (λ (b : Bool). pick b (setBit id 13) id) (marked (freedBy x) maxFiles 256 rows m j (omega arith)))
+
+-- an entry as shown changes nothing
+pub unchanged-entry : (x : FatWrite) (i : ℕ) (w : W) → changedAt x i ≡ false → applyAt x i w ≡ w
+unfolding applyAt
+unchanged-entry x i w e = rw e

@@ -176,21 +176,25 @@ fn apply_all(
     let mut out = w;
     let mut i = 0;
     while i < 256 {
-        out = apply_at(
-            ids,
-            starts,
-            sizes,
-            sorted,
-            first,
-            pair,
-            s,
-            g,
-            d,
-            rows,
-            i,
-            out,
-        );
-        i += 1;
+        if is_changed(g, d, i) {
+            out = apply_at(
+                ids,
+                starts,
+                sizes,
+                sorted,
+                first,
+                pair,
+                s,
+                g,
+                d,
+                rows,
+                i,
+                out,
+            );
+            i += 1;
+        } else {
+            i += 1;
+        }
     }
     out
 }

@@ -180,8 +180,12 @@ fn keep_all(w: W, s: u32, g: &[u8], d: &[u8]) -> W
     let mut out = w;
     let mut i = 0;
     while i < 16 {
-        out = keep_at(out, s, g, d, i);
-        i += 1;
+        if is_kept(s, g, d, i) {
+            out = keep_at(out, s, g, d, i);
+            i += 1;
+        } else {
+            i += 1;
+        }
     }
     out
 }
