@@ -1,0 +1,3 @@
+-- The lines that the entry listing reads.
+pub mod EntryLines
+pub mod EntryLaws
