@@ -1,4 +1,5 @@
 // The calls that only read, of the state and the table's columns by value. An enum's answer is told as a struct, which C can take.
+use body::BodyCheck;
 use chains::Chain;
 use file_table::MAX_VF;
 use files::Columns;
@@ -17,6 +18,7 @@ ghost use Rattle.vdisk.specs.Drive.{dirKindOf};
 ghost use Rattle.state.specs.Pairs.{pairOf};
 ghost use Rattle.medium.specs.Reads.{stagedAnswer, stagedBytes};
 ghost use Rattle.chains.specs.Chains.{completeOf};
+ghost use Rattle.body.specs.Body.{bodyOf};
 ghost use Rattle.root_slots.specs.RootSlots.{strictOf};
 ghost use Rattle.state_calls.specs.Answers.{pairAnswer, dirAnswer, ownAnswer, columnsOwner};
 
@@ -73,6 +75,14 @@ pub fn complete(w: W, start: u32, size: u32) -> Chain
     let pairs = w.pair;
     let st = w.st;
     chains::complete(pairs, st, start, size)
+}
+
+pub fn body_check(w: W, fat: &[u16], area: &[u8], start: u32, size: u32) -> BodyCheck
+    ensures { λ r. ⌜ r ≡ bodyOf (now (fat .entry)) (now (area .entry)) (w .pair) (w .st) start size ⌝ }
+{
+    let pairs = w.pair;
+    let st = w.st;
+    body::body(fat, area, pairs, st, start, size)
 }
 
 pub fn strict_name(w: W, d: &[u8], slot: usize) -> Strict

@@ -1,2 +1,3 @@
--- What the walks by hand of this crate use.
+-- What the walks by hand of the outer calls use.
 pub mod Session
+pub mod Table

@@ -1,5 +1,6 @@
 // The calls that a firmware links. Each takes the state or the table that it is lent apart for a proved function over values,
 // and stores what that gives back.
+use body::BodyCheck;
 use chains::Chain;
 use file_table::VF;
 use files::load;
@@ -15,6 +16,7 @@ use state::w::initial_state;
 use state_calls::DirAnswer;
 use state_calls::OwnAnswer;
 use state_calls::PairAnswer;
+use state_calls::body_check;
 use state_calls::complete;
 use state_calls::dir_kind;
 use state_calls::owner;
@@ -33,6 +35,7 @@ ghost use Rattle.state.specs.Pairs.{pairOf};
 ghost use Rattle.state.specs.Queries.{bootOf, fat1Of, frozenOf};
 ghost use Rattle.medium.specs.Reads.{stagedAnswer, stagedBytes};
 ghost use Rattle.chains.specs.Chains.{completeOf};
+ghost use Rattle.body.specs.Body.{bodyOf};
 ghost use Rattle.files.specs.Files.{withIds};
 ghost use Rattle.table_calls.specs.Calls.{filesWritten};
 ghost use Rattle.state_calls.specs.Answers.{pairAnswer, dirAnswer, filesOwner};
@@ -123,6 +126,20 @@ pub extern "C" fn vwrite_complete(w: &W, start: u32, size: u32) -> Chain
     ensures { λ r. ⌜ r ≡ completeOf (now (w .entry) .pair) (now (w .entry) .st) start size ⌝ }
 {
     complete(*w, start, size)
+}
+
+// The body of the update file with that start and size.
+#[no_mangle]
+pub extern "C" fn vwrite_body_check(
+    w: &W,
+    fat: &[u16],
+    area: &[u8],
+    start: u32,
+    size: u32,
+) -> BodyCheck
+    ensures { λ r. ⌜ r ≡ bodyOf (now (fat .entry)) (now (area .entry)) (now (w .entry) .pair) (now (w .entry) .st) start size ⌝ }
+{
+    body_check(*w, fat, area, start, size)
 }
 
 // Is the strict long name of a root slot, given its sector, housekeeping.

@@ -1,7 +1,7 @@
 -- `vwrite::vwrite_write` meets its contract: a walk of its MIR, by hand. The state and the table are opened; the table is lent to `load` as a `&[VF]` and to `set_ids` as a `&mut [VF]`; and the state
 -- is closed at what the covered function gave.
 use Rattle.files.proofs.Walk.{_≡_, refl, ap, subst, _∙_, ℕ, _<_, _^_, _+_, _*_, _-_, [], _∷_, List, URA, fullShare, named, w8, w16, w32, tyInt, tyBool, Val, vint, vptr, SProp, ent, id⊢, emp, via, fst∗, GName, Lft, Share, ftrue, fat as fcell, flft, fobs, fbor, Memory, Routine, Heap, Calls, Loops, WpFn, Tables, Atoms, Fun}
-use Rattle.files.proofs.Walk.{givenOf, tables, tablesOf, Given, ‵, raw, ⋆, _⊛_, _$_, _∵_, !, qed, by, move, drop, use1, use2, split, join, rewrite, fsplit, fsplit3, fjoin, fjoin3, feqI, feqL, suffices, frame, done}
+use Rattle.files.proofs.Walk.{givenOf, tables, tablesOf, Given, ‵, raw, ⋆, _⊛_, _$_, _∵_, !, qed, by, move, drop, use1, split, join, rewrite, fsplit, fsplit3, fjoin, fjoin3, feqI, feqL, suffices, frame, done}
 use Rattle.files.proofs.Walk.{look, look-raw, store-raw, init, stop, hop, fld, from, load, addr, of-opd, and-then, no-more, assigns, land, returns, enter, params1, pass1, pass0, free0, agg, whole, sub, look-in, Body, FmC, fmOf, WpFn-mono}
 use Rattle.files.proofs.Walk.{owns, Is, shows, mem, uint-vals, uint-tells, uint-makes, u8, u16, u32, RefT, at-last, MutRef, ptr-vals, mut-tells, sliceVal, MutSlice, ShrSlice, Room, finally, slice-vals, mut-slice-tells, shr-slice-tells, shr-slice-copy, plain, owned, peeks, heard, nothing, row}
 use Rattle.files.proofs.Walk.{onEntry, Meets, tripleOf, Contract, Triple, calls-at, entered, cited, says, Stays, stay-ref, stay-none, stay-none-slice, stay-slice, gave-slice, walkOf, goes-ref, goes-none, goes-none-slice, goes-slice, goes-gave-slice, ends-at, walked, walk-meets, yes}
@@ -12,17 +12,15 @@ use mir.Val.{vbool}
 use base.Fml.{froom, fdies}
 use prog.Wp.{Env}
 use types.Kit.{runs, atRet, Sq}
-use types.Tokens.{lft-new, lft-end}
-use denote.Array.{Array, array-vals, array-makes}
 use denote.Builtin.{bool}
 use denote.Memory.{pointee}
-use denote.Plain.{Nothing, nothing-lawful, bool-vals, bool-tells, bool-makes}
+use denote.Plain.{bool-vals, bool-tells, bool-makes}
 use denote.Slice.{sliceTy}
 use Rattle.files.proofs.Outer.{opened, closed, answered, gone}
 use Rattle.files.proofs.Rows.{opened as opened-row, closed as closed-row}
-use Rattle.files.proofs.Lent.{lent-mut, back-mut, lent-shr, back-shr}
 use Rattle.files.proofs.Locals.{alloc-all}
 use Rattle.files.proofs.Files.{map-same, columns-typed, columns-make}
+use Rattle.vwrite.proofs.Table.{Load, SetIds, loads, sets}
 use Rattle.vwrite.proofs.Session.{val, ids-in, number-of, state-of, ids-of, marked-is, state-typed, marked-typed, state-makes}
 use Rattle.files.specs.Files.{rowsTaken, columnsOf, withIds}
 use Rattle.table_calls.specs.Calls.{filesWritten, columnsWritten}
@@ -38,7 +36,6 @@ use Rattle.files.proofs.Columns as K
 use Rattle.files.proofs.Columns.Laws as K′
 use Rattle.table_calls.proofs.Marked as O
 use Rattle.table_calls.proofs.Marked.Laws as O′
-use Rattle.files.proofs.load as g₁
 use Rattle.files.proofs.load.Symbol as g₁-def
 use Rattle.files.proofs.load.Symbol.{name as #g₁}
 use Rattle.files.proofs.load.Met as g₁-thm
@@ -46,7 +43,6 @@ use Rattle.table_calls.proofs.write_columns as g₂
 use Rattle.table_calls.proofs.write_columns.Symbol as g₂-def
 use Rattle.table_calls.proofs.write_columns.Symbol.{name as #g₂}
 use Rattle.table_calls.proofs.write_columns.Met as g₂-thm
-use Rattle.files.proofs.set_ids as g₃
 use Rattle.files.proofs.set_ids.Symbol as g₃-def
 use Rattle.files.proofs.set_ids.Symbol.{name as #g₃}
 use Rattle.files.proofs.set_ids.Met as g₃-thm
@@ -59,15 +55,8 @@ use Rattle.vwrite.proofs.vwrite_write.Code.Mir.{t-1}
 abbrev stayed : Stays (f.ended .signature .params) (f.ended .kept)
 stayed = (stay-ref (0 ∷ []) tt (plain (λ _. T.the-row)), (stay-slice (1 ∷ []) tt (plain (λ _. F.the-row)), (stay-none (λ _. u32) yes, (stay-none-slice (2 ∷ []) tt (plain (λ _. u8)) yes, (stay-none-slice (3 ∷ []) tt (plain (λ _. u8)) yes, (stay-none (λ _. bool) yes, (stay-none-slice (4 ∷ []) tt (plain (λ _. u16)) yes, (gave-slice (5 ∷ []) tt (plain (λ _. u8)), tt))))))))
 
-module _ {M : Type 1} (𝓤 : URA M) (H : Heap 𝓤) (A : Atoms 𝓤) (mem : Memory → SProp 𝓤) (run : Routine → Fun 𝓤) where
-  abbrev G₁ : Contract 𝓤
-  G₁ = tripleOf 𝓤 H A g₁.signature (g₁.spec 𝓤 H A mem run)
-
-  abbrev G₂ : Contract 𝓤
-  G₂ = tripleOf 𝓤 H A g₂.signature (g₂.spec 𝓤 H A mem run)
-
-  abbrev G₃ : Contract 𝓤
-  G₃ = tripleOf 𝓤 H A g₃.signature (g₃.spec 𝓤 H A mem run)
+abbrev Callee : {M : Type 1} (𝓤 : URA M) (H : Heap 𝓤) (A : Atoms 𝓤) (mem : Memory → SProp 𝓤) (run : Routine → Fun 𝓤) → Contract 𝓤
+Callee 𝓤 H A mem run = tripleOf 𝓤 H A g₂.signature (g₂.spec 𝓤 H A mem run)
 
 abbrev file-ty : Ty
 file-ty = pointee (F.the-row .written)
@@ -116,35 +105,14 @@ module _ {M : Type 1} (𝓤 : URA M) (H : Heap 𝓤) (A : Atoms 𝓤) (W : Given
       suffices ! _ (ends-at 𝓤 H A f.ended stayed (f.clauses 𝓤 H A at-mem run) W (((κ0, (κ1, (κ2, (κ3, (κ4, (κ5, tt)))))), (q0, (q1, (q2, (q3, (q4, (q5, tt)))))), tt, x, at), tt) (vint w8 (r .no)) (r .no) (r .w, (zs, (tt, (tt, (tt, (tt, (tt, (area-last, tt)))))))) (tt, (l, (tt, (tt, (tt, (tt, (tt, (area-len, tt))))))))) $ says ! e $
       move ! (4 ∷ 5 ∷ []) $ join ! $ move ! (3 ∷ 0 ∷ []) $ join ! $ frame ! $ feqI ! (List Val) (vptr b o ∷ []) (vptr b o ∷ []) refl $ fjoin3 ! $ nothing ! $ move ! (6 ∷ 0 ∷ []) $ fjoin ! $ move ! (5 ∷ 0 ∷ []) $ fjoin ! $ owned ! bool (Is bool) (bool-makes 𝓤 H A W) busy _ refl $ fjoin ! $ move ! (4 ∷ 0 ∷ []) $ fjoin ! $ move ! (3 ∷ 0 ∷ []) $ fjoin ! $ owned ! u32 (Is u32) (uint-makes 𝓤 H A W w32) lba _ (refl, lba-fits) $ fjoin ! $ move ! (2 ∷ 0 ∷ []) $ fjoin ! $ move ! (1 ∷ 0 ∷ []) $ fjoin ! $ owned ! u8 (Is u8) (uint-makes 𝓤 H A W w8) (r .no) _ (refl, fits) $ move ! (1 ∷ 0 ∷ []) $ done !
 
-  -- the reference to the files that is made for a call
-  abbrev to-files : GName → RefT (List VF)
-  to-files δ = record { ptr = files .ptr; name = δ; now = fs }
-
-  module _ (ν : ℕ) (δ : GName) where
-    abbrev to₁ : G₁ 𝓤 H A at-mem run .Ghost
-    to₁ = (((ν ∷ [], tt), (fullShare, tt), tt, (to-files δ, tt), (slice-vals (to-files δ), tt)), tt)
-
-    goes₁ : ent 𝓤 (⋆ 𝓤 H A (‵ (flft (ν ∷ []) fullShare) ∷ ‵ (ShrSlice (named 0) (ν ∷ []) F.the-row .own (to-files δ) (slice-vals (to-files δ))) ∷ [])) (G₁ 𝓤 H A at-mem run .pre to₁)
-    goes₁ = qed W (‵ (flft (ν ∷ []) fullShare) ∷ ‵ (ShrSlice (named 0) (ν ∷ []) F.the-row .own (to-files δ) (slice-vals (to-files δ))) ∷ []) ∵
-        nothing ! $ move ! (2 ∷ 0 ∷ []) $ fjoin ! $ nothing ! $ move ! (2 ∷ 0 ∷ []) $ join ! $ move ! (0 ∷ 1 ∷ []) $ join ! $ nothing ! $ move ! (1 ∷ 0 ∷ []) $ done !
-
   module _ (c : Columns) (vc : Val) where
-    abbrev to₂ : G₂ 𝓤 H A at-mem run .Ghost
-    to₂ = (((κ2, (κ3, (κ4, (κ5, tt)))), (q2, (q3, (q4, (q5, tt)))), tt, (h, (c, (lba, (shown, (written, (busy, (fat, (area, tt)))))))), (val h ∷ [], (vc ∷ [], (vint w32 lba ∷ [], (slice-vals shown, (slice-vals written, (vbool busy ∷ [], (slice-vals fat, (slice-vals area, tt))))))))), tt)
+    abbrev to : Callee 𝓤 H A at-mem run .Ghost
+    to = (((κ2, (κ3, (κ4, (κ5, tt)))), (q2, (q3, (q4, (q5, tt)))), tt, (h, (c, (lba, (shown, (written, (busy, (fat, (area, tt)))))))), (val h ∷ [], (vc ∷ [], (vint w32 lba ∷ [], (slice-vals shown, (slice-vals written, (vbool busy ∷ [], (slice-vals fat, (slice-vals area, tt))))))))), tt)
 
-    goes₂ : Is K.the-row c (vc ∷ []) → Is T.the-row h (val h ∷ []) → ent 𝓤 (⋆ 𝓤 H A ((‵ (flft κ2 q2) ⊛ ‵ (flft κ3 q3) ⊛ ‵ (flft κ4 q4) ⊛ ‵ (flft κ5 q5) ⊛ ‵ ftrue) ∷ ‵ (ShrSlice (named 2) κ2 u8 .own shown (slice-vals shown)) ∷ ‵ (ShrSlice (named 3) κ3 u8 .own written (slice-vals written)) ∷ ‵ (ShrSlice (named 4) κ4 u16 .own fat (slice-vals fat)) ∷ ‵ (MutSlice (named 5) κ5 u8 .own area (slice-vals area)) ∷ [])) (G₂ 𝓤 H A at-mem run .pre to₂)
-    goes₂ is-c is = qed W ((‵ (flft κ2 q2) ⊛ ‵ (flft κ3 q3) ⊛ ‵ (flft κ4 q4) ⊛ ‵ (flft κ5 q5) ⊛ ‵ ftrue) ∷ ‵ (ShrSlice (named 2) κ2 u8 .own shown (slice-vals shown)) ∷ ‵ (ShrSlice (named 3) κ3 u8 .own written (slice-vals written)) ∷ ‵ (ShrSlice (named 4) κ4 u16 .own fat (slice-vals fat)) ∷ ‵ (MutSlice (named 5) κ5 u8 .own area (slice-vals area)) ∷ []) ∵ nothing ! $ move ! (5 ∷ 0 ∷ []) $ fjoin ! $ move ! (4 ∷ 0 ∷ []) $ fjoin ! $ owned ! bool (Is bool) (bool-makes 𝓤 H A W) busy _ refl $ fjoin ! $ move ! (3 ∷ 0 ∷ []) $ fjoin ! $ move ! (2 ∷ 0 ∷ []) $ fjoin ! $ owned ! u32 (Is u32) (uint-makes 𝓤 H A W w32) lba _ (refl, lba-fits) $ fjoin ! $ owned ! K.the-row (Is K.the-row) (columns-make 𝓤 H A) c (vc ∷ []) is-c $ fjoin ! $ owned ! T.the-row (Is T.the-row) (state-makes 𝓤 H A W) h _ is $ fjoin ! $ move ! (1 ∷ 0 ∷ []) $ join ! $ nothing ! $ move ! (1 ∷ 0 ∷ []) $ done !
+    goes : Is K.the-row c (vc ∷ []) → Is T.the-row h (val h ∷ []) → ent 𝓤 (⋆ 𝓤 H A ((‵ (flft κ2 q2) ⊛ ‵ (flft κ3 q3) ⊛ ‵ (flft κ4 q4) ⊛ ‵ (flft κ5 q5) ⊛ ‵ ftrue) ∷ ‵ (ShrSlice (named 2) κ2 u8 .own shown (slice-vals shown)) ∷ ‵ (ShrSlice (named 3) κ3 u8 .own written (slice-vals written)) ∷ ‵ (ShrSlice (named 4) κ4 u16 .own fat (slice-vals fat)) ∷ ‵ (MutSlice (named 5) κ5 u8 .own area (slice-vals area)) ∷ [])) (Callee 𝓤 H A at-mem run .pre to)
+    goes is-c is = qed W ((‵ (flft κ2 q2) ⊛ ‵ (flft κ3 q3) ⊛ ‵ (flft κ4 q4) ⊛ ‵ (flft κ5 q5) ⊛ ‵ ftrue) ∷ ‵ (ShrSlice (named 2) κ2 u8 .own shown (slice-vals shown)) ∷ ‵ (ShrSlice (named 3) κ3 u8 .own written (slice-vals written)) ∷ ‵ (ShrSlice (named 4) κ4 u16 .own fat (slice-vals fat)) ∷ ‵ (MutSlice (named 5) κ5 u8 .own area (slice-vals area)) ∷ []) ∵ nothing ! $ move ! (5 ∷ 0 ∷ []) $ fjoin ! $ move ! (4 ∷ 0 ∷ []) $ fjoin ! $ owned ! bool (Is bool) (bool-makes 𝓤 H A W) busy _ refl $ fjoin ! $ move ! (3 ∷ 0 ∷ []) $ fjoin ! $ move ! (2 ∷ 0 ∷ []) $ fjoin ! $ owned ! u32 (Is u32) (uint-makes 𝓤 H A W w32) lba _ (refl, lba-fits) $ fjoin ! $ owned ! K.the-row (Is K.the-row) (columns-make 𝓤 H A) c (vc ∷ []) is-c $ fjoin ! $ owned ! T.the-row (Is T.the-row) (state-makes 𝓤 H A W) h _ is $ fjoin ! $ move ! (1 ∷ 0 ∷ []) $ join ! $ nothing ! $ move ! (1 ∷ 0 ∷ []) $ done !
 
-  module _ (r : Marked) (v : Val) (is : Is O.the-row r (v ∷ [])) (ν : ℕ) (δ : GName) where
-    abbrev to₃ : G₃ 𝓤 H A at-mem run .Ghost
-    to₃ = (((ν ∷ [], tt), (fullShare, tt), tt, (to-files δ, (ids-in r, tt)), (slice-vals (to-files δ), (array-vals (uint-vals w16) (ids-in r), tt))), tt)
-
-    goes₃ : ent 𝓤 (⋆ 𝓤 H A (‵ (flft (ν ∷ []) fullShare) ∷ ‵ (MutSlice (named 0) (ν ∷ []) F.the-row .own (to-files δ) (slice-vals (to-files δ))) ∷ [])) (G₃ 𝓤 H A at-mem run .pre to₃)
-    goes₃ = qed W (‵ (flft (ν ∷ []) fullShare) ∷ ‵ (MutSlice (named 0) (ν ∷ []) F.the-row .own (to-files δ) (slice-vals (to-files δ))) ∷ []) ∵
-        nothing ! $ owned ! (Array u16 400) (Is (Array u16 400)) (array-makes 𝓤 H A W u16 (uint-makes 𝓤 H A W w16) 400) (ids-in r) _ (ids-of r _ is) $ fjoin ! $ move ! (2 ∷ 0 ∷ []) $ fjoin ! $
-        nothing ! $ move ! (2 ∷ 0 ∷ []) $ join ! $ move ! (0 ∷ 1 ∷ []) $ join ! $ nothing ! $ move ! (1 ∷ 0 ∷ []) $ done !
-
-  module _ (C : Calls 𝓤 H) (Λ : Loops 𝓤 H) (fm : FmC 𝓤 H (W .laws) C) (k₁ : Triple 𝓤 (C #g₁) (G₁ 𝓤 H A at-mem run)) (k₂ : Triple 𝓤 (C #g₂) (G₂ 𝓤 H A at-mem run)) (k₃ : Triple 𝓤 (C #g₃) (G₃ 𝓤 H A at-mem run)) where
+  module _ (C : Calls 𝓤 H) (Λ : Loops 𝓤 H) (fm : FmC 𝓤 H (W .laws) C) (k₁ : Triple 𝓤 (C #g₁) (Load 𝓤 H A at-mem run)) (k₂ : Triple 𝓤 (C #g₂) (Callee 𝓤 H A at-mem run)) (k₃ : Triple 𝓤 (C #g₃) (SetIds 𝓤 H A at-mem run)) where
     module _ (l0 l1 l2 l3 l4 l5 l6 l7 l8 l9 l10 l11 l12 l13 l14 l15 l16 l17 l18 : ℕ) where
       abbrev En : Env 𝓤 H
       En = (tyInt w8, l0) ∷ (w-ty, l1) ∷ (files-ty, l2) ∷ (tyInt w32, l3) ∷ (sliceTy (tyRef (named 2) imm (tyInt w8)), l4) ∷ (sliceTy (tyRef (named 3) imm (tyInt w8)), l5) ∷ (tyBool, l6) ∷ (sliceTy (tyRef (named 4) imm (tyInt w16)), l7) ∷ (sliceTy (tyRef (named 5) mut (tyInt w8)), l8) ∷ (K′.mir, l9) ∷ (O′.mir, l10) ∷ (tyRef erased imm file-ty, l11) ∷ (sliceTy (tyRef erased imm file-ty), l12) ∷ (T′.mir, l13) ∷ (tyRef erased mut (tyInt w8), l14) ∷ (sliceTy (tyRef erased mut (tyInt w8)), l15) ∷ (tyUnit, l16) ∷ (tyRef erased mut file-ty, l17) ∷ (sliceTy (tyRef erased mut file-ty), l18) ∷ []
@@ -162,16 +130,13 @@ module _ {M : Type 1} (𝓤 : URA M) (H : Heap 𝓤) (A : Atoms 𝓤) (W : Given
           -- `load`: the files are lent for ν
           assigns ! (addr ! (from ! (fld ! refl (hop ! (look-in ! (16 + p 2) (sub ! 0 refl (whole !))) (stop !))))) (from ! (stop !)) (init ! (16 + p 11) refl (tt, tt)) $
           assigns ! (agg ! (and-then ! (load ! (from ! (stop !)) (look ! (16 + p 11) refl)) (and-then ! (load ! (from ! (fld ! refl (stop !))) (look-in ! (16 + p 2) (sub ! 1 refl (whole !)))) (no-more !)))) (from ! (stop !)) (init ! (16 + p 12) refl (tt, (tt, (record { fits = files-room .0 }, tt)))) $
-          lft-new ! tt (λ ν. move ! (1 ∷ []) $ lent-shr ! tt F.the-row (named 0) (ν ∷ []) fs (files .ptr .0) (files .ptr .1) files-room (λ δ.
-          move ! (2 ∷ 0 ∷ []) $ use2 W (raw (G₁ 𝓤 H A at-mem run .pre (to₁ ν δ))) (goes₁ ν δ) $ calls-at ! fm (G₁ 𝓤 H A at-mem run) k₁ (to₁ ν δ) (and-then ! (load ! (from ! (stop !)) (look ! (17 + p 12) refl)) (no-more !)) (λ vc.
-          answered ! tt g₁.ended (g₁.clauses 𝓤 H A at-mem run) (ν ∷ [], tt) (fullShare, tt) tt (to-files δ, tt) (slice-vals (to-files δ), tt) tt vc (‵ (flft (ν ∷ []) fullShare) ⊛ ‵ ftrue) (id⊢ 𝓤 _) (λ c ws₁.
-          heard ! (c ≡ columnsOf fs) (λ e₁. peeks ! K.the-row (Is K.the-row) (shows 𝓤 H A K.the-row) c (vc ∷ []) (λ is-c. drop ! $
-          land ! (from ! (stop !)) (init ! (18 + p 9) refl (columns-typed 𝓤 H A W c vc is-c)) $ drop ! $ split ! $ lft-end ! tt $ move ! (0 ∷ 2 ∷ []) $ back-shr ! tt F.the-row (ν ∷ []) fs (files .ptr .0) (files .ptr .1) $ move ! (1 ∷ []) $ drop ! $
+          loads ! fm at-mem run k₁ files files-room (λ i j. and-then ! (load ! (from ! (stop !)) (look ! (17 + p 12) refl)) (no-more !)) (λ c vc e₁ is-c.
+          land ! (from ! (stop !)) (init ! (16 + p 9) refl (columns-typed 𝓤 H A W c vc is-c)) $
           -- the covered function
           assigns ! (of-opd ! (load ! (from ! (hop ! (look ! (16 + p 1) refl) (stop !))) (look-raw ! 1 refl))) (from ! (stop !)) (init ! (16 + p 13) refl (state-typed 𝓤 H A W h _ was)) $
           assigns ! (addr ! (from ! (fld ! refl (hop ! (look-in ! (16 + p 8) (sub ! 0 refl (whole !))) (stop !))))) (from ! (stop !)) (init ! (16 + p 14) refl (tt, tt)) $
           assigns ! (agg ! (and-then ! (load ! (from ! (stop !)) (look ! (16 + p 14) refl)) (and-then ! (load ! (from ! (fld ! refl (stop !))) (look-in ! (16 + p 8) (sub ! 1 refl (whole !)))) (no-more !)))) (from ! (stop !)) (init ! (16 + p 15) refl (tt, (tt, (record { fits = area-room .0 }, tt)))) $
-          move ! (8 ∷ 12 ∷ 13 ∷ 14 ∷ 15 ∷ []) $ move ! (3 ∷ 4 ∷ []) $ join ! $ move ! (3 ∷ 0 ∷ []) $ join ! $ move ! (2 ∷ 0 ∷ []) $ join ! $ move ! (1 ∷ 0 ∷ []) $ join ! $ use1 W (raw (G₂ 𝓤 H A at-mem run .pre (to₂ c vc))) (goes₂ c vc is-c was) $ calls-at ! fm (G₂ 𝓤 H A at-mem run) k₂ (to₂ c vc) (and-then ! (load ! (from ! (stop !)) (look ! (12 + p 13) refl)) (and-then ! (load ! (from ! (stop !)) (look ! (12 + p 9) refl)) (and-then ! (load ! (from ! (stop !)) (look ! (12 + p 3) refl)) (and-then ! (load ! (from ! (stop !)) (look ! (12 + p 4) refl)) (and-then ! (load ! (from ! (stop !)) (look ! (12 + p 5) refl)) (and-then ! (load ! (from ! (stop !)) (look ! (12 + p 6) refl)) (and-then ! (load ! (from ! (stop !)) (look ! (12 + p 7) refl)) (and-then ! (load ! (from ! (stop !)) (look ! (12 + p 15) refl)) (no-more !))))))))) (λ v.
+          move ! (8 ∷ 12 ∷ 13 ∷ 14 ∷ 15 ∷ []) $ move ! (3 ∷ 4 ∷ []) $ join ! $ move ! (3 ∷ 0 ∷ []) $ join ! $ move ! (2 ∷ 0 ∷ []) $ join ! $ move ! (1 ∷ 0 ∷ []) $ join ! $ use1 W (raw (Callee 𝓤 H A at-mem run .pre (to c vc))) (goes c vc is-c was) $ calls-at ! fm (Callee 𝓤 H A at-mem run) k₂ (to c vc) (and-then ! (load ! (from ! (stop !)) (look ! (12 + p 13) refl)) (and-then ! (load ! (from ! (stop !)) (look ! (12 + p 9) refl)) (and-then ! (load ! (from ! (stop !)) (look ! (12 + p 3) refl)) (and-then ! (load ! (from ! (stop !)) (look ! (12 + p 4) refl)) (and-then ! (load ! (from ! (stop !)) (look ! (12 + p 5) refl)) (and-then ! (load ! (from ! (stop !)) (look ! (12 + p 6) refl)) (and-then ! (load ! (from ! (stop !)) (look ! (12 + p 7) refl)) (and-then ! (load ! (from ! (stop !)) (look ! (12 + p 15) refl)) (no-more !))))))))) (λ v.
           answered ! tt g₂.ended (g₂.clauses 𝓤 H A at-mem run) (κ2, (κ3, (κ4, (κ5, tt)))) (q2, (q3, (q4, (q5, tt)))) tt (h, (c, (lba, (shown, (written, (busy, (fat, (area, tt)))))))) (val h ∷ [], (vc ∷ [], (vint w32 lba ∷ [], (slice-vals shown, (slice-vals written, (vbool busy ∷ [], (slice-vals fat, (slice-vals area, tt)))))))) tt v (‵ (flft κ2 q2) ⊛ ‵ (flft κ3 q3) ⊛ ‵ (flft κ4 q4) ⊛ ‵ (flft κ5 q5) ⊛ ‵ ftrue) (id⊢ 𝓤 _) (λ r ws₂.
           heard ! (Given₂ c r (ws₂ .1 .1 .1 .1 .1 .1 .1 .0)) (λ e₂. peeks ! O.the-row (Is O.the-row) (shows 𝓤 H A O.the-row) r (v ∷ []) (λ is. drop ! $
           fsplit ! $ drop ! $ fsplit ! $ drop ! $ fsplit ! $ drop ! $ fsplit ! $ drop ! $ fsplit ! $ drop ! $ fsplit ! $ drop ! $ fsplit ! $ drop ! $ fsplit ! $ fsplit ! $ move ! (1 ∷ []) $ feqL ! (λ area-len. move ! (1 ∷ []) $ drop ! $
@@ -180,19 +145,15 @@ module _ {M : Type 1} (𝓤 : URA M) (H : Heap 𝓤) (A : Atoms 𝓤) (W : Given
           -- `set_ids`: the files are lent for ν′
           assigns ! (addr ! (from ! (fld ! refl (hop ! (look-in ! (13 + p 2) (sub ! 0 refl (whole !))) (stop !))))) (from ! (stop !)) (init ! (13 + p 17) refl (tt, tt)) $
           assigns ! (agg ! (and-then ! (load ! (from ! (stop !)) (look ! (13 + p 17) refl)) (and-then ! (load ! (from ! (fld ! refl (stop !))) (look-in ! (13 + p 2) (sub ! 1 refl (whole !)))) (no-more !)))) (from ! (stop !)) (init ! (13 + p 18) refl (tt, (tt, (record { fits = files-room .0 }, tt)))) $
-          lft-new ! tt (λ ν′. move ! (1 ∷ []) $ lent-mut ! tt F.the-row (named 0) (ν′ ∷ []) fs (files .ptr .0) (files .ptr .1) files-room (λ δ′.
-          move ! (2 ∷ 0 ∷ []) $ use2 W (raw (G₃ 𝓤 H A at-mem run .pre (to₃ r v is ν′ δ′))) (goes₃ r v is ν′ δ′) $ calls-at ! fm (G₃ 𝓤 H A at-mem run) k₃ (to₃ r v is ν′ δ′) (and-then ! (load ! (from ! (stop !)) (look ! (14 + p 18) refl)) (and-then ! (load ! (from ! (fld ! refl (stop !))) (look-in ! (14 + p 10) (sub ! 2 refl (whole !)))) (no-more !))) (λ v₃.
-          answered ! tt g₃.ended (g₃.clauses 𝓤 H A at-mem run) (ν′ ∷ [], tt) (fullShare, tt) tt (to-files δ′, (ids-in r, tt)) (slice-vals (to-files δ′), (array-vals (uint-vals w16) (ids-in r), tt)) tt v₃ (‵ (flft (ν′ ∷ []) fullShare) ⊛ ‵ ftrue) (id⊢ 𝓤 _) (λ r₃ ws₃.
-          heard ! (ws₃ .0 ≡ withIds fs (take (rowsTaken (length fs)) (ids-in r))) (λ e₃. peeks ! Nothing (Is Nothing) (shows 𝓤 H A Nothing) r₃ (v₃ ∷ []) (λ is₃. drop ! $
-          land ! (from ! (stop !)) (init ! (15 + p 16) refl (nothing-lawful 𝓤 H A W .typed r₃ _ is₃ .0)) $ fsplit ! $ fsplit ! $ move ! (1 ∷ []) $ feqL ! (λ len₃. move ! (1 ∷ []) $ drop ! $ move ! (1 ∷ []) $ split ! $ lft-end ! tt $ move ! (0 ∷ 3 ∷ 2 ∷ []) $
-          back-mut ! tt F.the-row (ν′ ∷ []) δ′ (ws₃ .0) (length fs) (files .ptr .0) (files .ptr .1) $ move ! (1 ∷ []) $ drop ! $ move ! (0 ∷ 5 ∷ 6 ∷ 7 ∷ []) $ closed-row ! tt F.the-row (named 1) files (ws₃ .0) len₃ files-room $
+          sets ! fm at-mem run k₃ files files-room (ids-in r) (ids-of r _ is) (λ i j. and-then ! (load ! (from ! (stop !)) (look ! (14 + p 18) refl)) (and-then ! (load ! (from ! (fld ! refl (stop !))) (look-in ! (14 + p 10) (sub ! 2 refl (whole !)))) (no-more !))) (λ zs v₃ len₃ e₃ unit.
+          land ! (from ! (stop !)) (init ! (13 + p 16) refl unit) $ move ! (0 ∷ 5 ∷ 6 ∷ 7 ∷ []) $ closed-row ! tt F.the-row (named 1) files zs len₃ files-room $
           move ! (2 ∷ 3 ∷ 4 ∷ 5 ∷ 0 ∷ 1 ∷ 6 ∷ 7 ∷ 8 ∷ 9 ∷ 10 ∷ []) $
           -- the state and the number
           assigns ! (of-opd ! (load ! (from ! (fld ! refl (stop !))) (look-in ! (11 + p 10) (sub ! 1 refl (whole !))))) (from ! (hop ! (look ! (11 + p 1) refl) (stop !))) (store-raw ! 0 refl (state-typed 𝓤 H A W (r .w) _ (state-of r _ is))) $
           assigns ! (of-opd ! (load ! (from ! (fld ! refl (stop !))) (look-in ! (11 + p 10) (sub ! 0 refl (whole !))))) (from ! (stop !)) (init ! (11 + p 0) refl (tt, record { fits = number-of r _ is })) $
           closed ! tt T.the-type T′.the-laws T′.the-plain (r .w) (state-of r _ is) b o $
           returns ! (look ! (10 + p 0) refl) $ gone ! (10 + p 0) refl refl $ gone ! (10 + p 1) refl refl $ gone ! (10 + p 2) refl refl $ gone ! (10 + p 3) refl refl $ gone ! (10 + p 4) refl refl $ gone ! (10 + p 5) refl refl $ gone ! (10 + p 6) refl refl $ gone ! (10 + p 7) refl refl $ gone ! (10 + p 8) refl refl $ gone ! (10 + p 9) refl refl $ gone ! (10 + p 10) refl refl $ gone ! (10 + p 11) refl refl $ gone ! (10 + p 12) refl refl $ gone ! (10 + p 13) refl refl $ gone ! (10 + p 14) refl refl $ gone ! (10 + p 15) refl refl $ gone ! (10 + p 16) refl refl $ gone ! (10 + p 17) refl refl $ gone ! (10 + p 18) refl refl $ free0 ! $
-          by ! (exits r (ws₃ .0) (ws₂ .1 .1 .1 .1 .1 .1 .1 .0) len₃ area-len (settles c r (ws₃ .0) (ws₂ .1 .1 .1 .1 .1 .1 .1 .0) e₁ e₂ e₃) (number-of r _ is)))))))))))))))))))))
+          by ! (exits r zs (ws₂ .1 .1 .1 .1 .1 .1 .1 .0) len₃ area-len (settles c r zs (ws₂ .1 .1 .1 .1 .1 .1 .1 .0) e₁ e₂ e₃) (number-of r _ is))))))))))
 
     walk : ent 𝓤 (onEntry 𝓤 H A f.signature (κ0, (κ1, (κ2, (κ3, (κ4, (κ5, tt)))))) (q0, (q1, (q2, (q3, (q4, (q5, tt)))))) x at) (WpFn 𝓤 H C Λ code.function (vptr b o ∷ sliceVal (files .ptr) (length (files .now)) ∷ vint w32 lba ∷ sliceVal (shown .ptr) (length (shown .now)) ∷ sliceVal (written .ptr) (length (written .now)) ∷ vbool busy ∷ sliceVal (fat .ptr) (length (fat .now)) ∷ sliceVal (area .ptr) (length (area .now)) ∷ []) Post)
     walk =
@@ -202,7 +163,7 @@ module _ {M : Type 1} (𝓤 : URA M) (H : Heap 𝓤) (A : Atoms 𝓤) (W : Given
         pass1 ! (init ! (p 1) refl (tt, tt)) $ pass1 ! (init ! (p 2) refl (tt, (tt, (record { fits = files-room .0 }, tt)))) $ pass1 ! (init ! (p 3) refl (tt, record { fits = lba-fits })) $ pass1 ! (init ! (p 4) refl (tt, (tt, (record { fits = shown-room .0 }, tt)))) $ pass1 ! (init ! (p 5) refl (tt, (tt, (record { fits = written-room .0 }, tt)))) $ pass1 ! (init ! (p 6) refl (tt, tt)) $ pass1 ! (init ! (p 7) refl (tt, (tt, (record { fits = fat-room .0 }, tt)))) $ pass1 ! (init ! (p 8) refl (tt, (tt, (record { fits = area-room .0 }, tt)))) $ pass0 ! $
         by ! (starts (bs .0) (bs .1 .0) (bs .1 .1 .0) (bs .1 .1 .1 .0) (bs .1 .1 .1 .1 .0) (bs .1 .1 .1 .1 .1 .0) (bs .1 .1 .1 .1 .1 .1 .0) (bs .1 .1 .1 .1 .1 .1 .1 .0) (bs .1 .1 .1 .1 .1 .1 .1 .1 .0) (bs .1 .1 .1 .1 .1 .1 .1 .1 .1 .0) (bs .1 .1 .1 .1 .1 .1 .1 .1 .1 .1 .0) (bs .1 .1 .1 .1 .1 .1 .1 .1 .1 .1 .1 .0) (bs .1 .1 .1 .1 .1 .1 .1 .1 .1 .1 .1 .1 .0) (bs .1 .1 .1 .1 .1 .1 .1 .1 .1 .1 .1 .1 .1 .0) (bs .1 .1 .1 .1 .1 .1 .1 .1 .1 .1 .1 .1 .1 .1 .0) (bs .1 .1 .1 .1 .1 .1 .1 .1 .1 .1 .1 .1 .1 .1 .1 .0) (bs .1 .1 .1 .1 .1 .1 .1 .1 .1 .1 .1 .1 .1 .1 .1 .1 .0) (bs .1 .1 .1 .1 .1 .1 .1 .1 .1 .1 .1 .1 .1 .1 .1 .1 .1 .0) (bs .1 .1 .1 .1 .1 .1 .1 .1 .1 .1 .1 .1 .1 .1 .1 .1 .1 .1 .0) .prf))
 
-meets : {M : Type 1} (𝓤 : URA M) (H : Heap 𝓤) (A : Atoms 𝓤) (W : Given 𝓤 H A) (at-mem : Memory → SProp 𝓤) (run : Routine → Fun 𝓤) (𝓣 : Tables 𝓤 H) → Triple 𝓤 (𝓣 .C #g₁) (G₁ 𝓤 H A at-mem run) → Triple 𝓤 (𝓣 .C #g₂) (G₂ 𝓤 H A at-mem run) → Triple 𝓤 (𝓣 .C #g₃) (G₃ 𝓤 H A at-mem run)
+meets : {M : Type 1} (𝓤 : URA M) (H : Heap 𝓤) (A : Atoms 𝓤) (W : Given 𝓤 H A) (at-mem : Memory → SProp 𝓤) (run : Routine → Fun 𝓤) (𝓣 : Tables 𝓤 H) → Triple 𝓤 (𝓣 .C #g₁) (Load 𝓤 H A at-mem run) → Triple 𝓤 (𝓣 .C #g₂) (Callee 𝓤 H A at-mem run) → Triple 𝓤 (𝓣 .C #g₃) (SetIds 𝓤 H A at-mem run)
     → Meets 𝓤 H A f.signature (WpFn 𝓤 H (𝓣 .C) (𝓣 .Λ) code.function) (f.spec 𝓤 H A at-mem run)
 meets 𝓤 H A W at-mem run 𝓣 k₁ k₂ k₃ =
     walk-meets 𝓤 H A f.ended stayed W (goes-ref 𝓤 H A W 6 0 tt (plain (λ _. T.the-row)), (goes-slice 𝓤 H A W 6 1 tt (plain (λ _. F.the-row)), (goes-none 𝓤 H A W 6 (λ _. u32) yes (λ κs x f. refl), (goes-none-slice 𝓤 H A W 6 (2 ∷ []) tt (plain (λ _. u8)) yes, (goes-none-slice 𝓤 H A W 6 (3 ∷ []) tt (plain (λ _. u8)) yes, (goes-none 𝓤 H A W 6 (λ _. bool) yes (λ κs x f. refl), (goes-none-slice 𝓤 H A W 6 (4 ∷ []) tt (plain (λ _. u16)) yes, (goes-gave-slice 𝓤 H A W 6 5 tt (plain (λ _. u8)), tt))))))))
@@ -216,6 +177,6 @@ unfolding code.routine tablesOf
 vwrite-write-spec 𝓤 H 𝓜 𝓖 𝓡 =
     entered 𝓤 H (tripleOf 𝓤 H (𝓖 .A) f.signature (f.spec 𝓤 H (𝓖 .A) (𝓜 .mem) (𝓡 .run))) (tables 𝓤 H 𝓜 𝓡 code.env .C) (tables 𝓤 H 𝓜 𝓡 code.env .Λ) #f code.function (code.unfolded 𝓤 H 𝓜 𝓡)
     (meets 𝓤 H (𝓖 .A) (givenOf 𝓤 H 𝓜 𝓖) (𝓜 .mem) (𝓡 .run) (tablesOf 𝓤 H 𝓜 (tables 𝓤 H 𝓜 𝓡 code.env))
-    (cited 𝓤 H (G₁ 𝓤 H (𝓖 .A) (𝓜 .mem) (𝓡 .run)) 𝓜 𝓡 code.env #g₁ g₁-def.routine code.calls-files·load (g₁-thm.met 𝓤 H 𝓜 𝓖 𝓡))
-    (cited 𝓤 H (G₂ 𝓤 H (𝓖 .A) (𝓜 .mem) (𝓡 .run)) 𝓜 𝓡 code.env #g₂ g₂-def.routine code.calls-table-calls·write-columns (g₂-thm.met 𝓤 H 𝓜 𝓖 𝓡))
-    (cited 𝓤 H (G₃ 𝓤 H (𝓖 .A) (𝓜 .mem) (𝓡 .run)) 𝓜 𝓡 code.env #g₃ g₃-def.routine code.calls-files·set-ids (g₃-thm.met 𝓤 H 𝓜 𝓖 𝓡)))
+    (cited 𝓤 H (Load 𝓤 H (𝓖 .A) (𝓜 .mem) (𝓡 .run)) 𝓜 𝓡 code.env #g₁ g₁-def.routine code.calls-files·load (g₁-thm.met 𝓤 H 𝓜 𝓖 𝓡))
+    (cited 𝓤 H (Callee 𝓤 H (𝓖 .A) (𝓜 .mem) (𝓡 .run)) 𝓜 𝓡 code.env #g₂ g₂-def.routine code.calls-table-calls·write-columns (g₂-thm.met 𝓤 H 𝓜 𝓖 𝓡))
+    (cited 𝓤 H (SetIds 𝓤 H (𝓖 .A) (𝓜 .mem) (𝓡 .run)) 𝓜 𝓡 code.env #g₃ g₃-def.routine code.calls-files·set-ids (g₃-thm.met 𝓤 H 𝓜 𝓖 𝓡)))

@@ -1,0 +1,58 @@
+-- The calls of a session over the lent table: the definitions that they cite, of the table's columns.
+use Prim.Native.Nat.{ℕ, _<_, _≤_}
+use mathlib.Core.Bool.{true, false}
+use mathlib.Core.List.{List, [], map}
+use mathlib.Core.Path.{_≡_}
+use lib.Dec.{ltb}
+use lib.ListN.{length, take, getD}
+use Rattle.loops.specs.Loops.{pick}
+use Rattle.vdisk.specs.Ids.{handed}
+use Rattle.file_table.specs.Table.{Table, maxFiles, tableOf}
+use Rattle.file_table.specs.declared.VF.{VF}
+use Rattle.files.specs.Files.{idOf, startOf, sizeOf}
+use Rattle.files.specs.declared.Columns.{Columns}
+use Rattle.state.specs.declared.w.W.{W}
+use Rattle.release.specs.Release.{Lending, lending, Ended}
+use Rattle.sessions.specs.Sessions.{Reported, reportGone, Started, start}
+use Rattle.session_calls.specs.declared.EndAnswer.{EndAnswer}
+use Rattle.session_calls.specs.declared.HandedAnswer.{HandedAnswer}
+
+-- what a release is lent, with a table of files
+abbrev pub filesLending : List ℕ → List ℕ → List VF → Lending
+filesLending fat area files = lending fat area (map idOf files) (map startOf files) (map sizeOf files)
+
+-- what a call that may end the session answers
+abbrev pub endAnswer : Ended → EndAnswer
+endAnswer e = record { no = e .number; ended = e .ended; had = e .had }
+
+-- the finder over n files: 10 for more than 400; else the row of a handed file, any one, none only where none is
+unfoldable pub FindsHanded : ℕ → List ℕ → HandedAnswer → Type 0
+FindsHanded n ids r =
+    (maxFiles < n → r ≡ record { no = 10; found = false; row = 0 })
+    × (n ≤ maxFiles → r .found ≡ true → (r .no ≡ 0) × (r .row < n) × (handed (getD ids (r .row) 0) ≡ true))
+    × (n ≤ maxFiles → r .found ≡ false → (r .no ≡ 0) × (r .row ≡ 0) × ((j : ℕ) → j < n → handed (getD ids j 0) ≡ false))
+
+abbrev pub FindsFile : List VF → HandedAnswer → Type 0
+FindsFile files r = FindsHanded (length files) (map idOf files) r
+
+-- The same with the table by columns. Of more than 400 files there are no columns.
+abbrev pub columnsLending : List ℕ → List ℕ → Columns → Lending
+columnsLending fat area c = lending fat area (take (c .n) (c .ids)) (take (c .n) (c .starts)) (take (c .n) (c .sizes))
+
+abbrev pub refusedEnd : W → Ended
+refusedEnd w = record { number = 10; ended = 0; had = false; w = w; ids = [] }
+
+unfoldable pub columnsEnded : (Lending → W → Ended) → List ℕ → List ℕ → Columns → W → Ended
+columnsEnded call fat area c w = pick (ltb maxFiles (c .n)) (refusedEnd w) (call (columnsLending fat area c) w)
+
+abbrev pub columnsTable : Columns → ℕ → Table
+columnsTable c first = tableOf (take (c .n) (c .ids)) (take (c .n) (c .slots)) (take (c .n) (c .starts)) (take (c .n) (c .sizes)) first
+
+unfoldable pub columnsStarted : Columns → ℕ → W → Started
+columnsStarted c first w = pick (ltb maxFiles (c .n)) (record { number = 10; w = w }) (start (columnsTable c first) w)
+
+unfoldable pub columnsGone : Columns → ℕ → Reported
+columnsGone c j = pick (ltb maxFiles (c .n)) (record { number = 10; ids = [] }) (reportGone (take (c .n) (c .ids)) j)
+
+abbrev pub FindsColumns : Columns → HandedAnswer → Type 0
+FindsColumns c r = FindsHanded (c .n) (take (c .n) (c .ids)) r
