@@ -1,4 +1,4 @@
-/* How written sectors of the mixer's USB drive are judged: the calls of libvwrite.a.
+/* How written sectors of the mixer's USB drive are judged: the calls of libvwrite.a, and, from vwrite_start on, of libvwrite_sessions.a.
  *
  * The caller owns everything: the state, the table of files, the sectors, and the medium. A call reads and writes what it is lent only while it
  * runs, keeps no pointer, and allocates nothing. What is passed by a pointer that is not const may be written; no two of those may overlap each
@@ -15,7 +15,8 @@
  *    7  root slot 0 to 6                            17  medium
  *    8  root slot not admitted                      18  no free block
  *    9  directory slot                              19  busy
- *   10  more than 400 files                         20  chain not complete
+ *   10  more than 400 files, or a table that a      20  chain not complete
+ *       start doesn't take
  *                                                   21  gone reported of a row that isn't handed
  */
 #ifndef VWRITE_H
@@ -41,7 +42,7 @@ typedef struct {
     uint32_t vsize;
 } vwrite_file;
 
-/* The state of a session. Its fields are the library's: a caller only keeps it, and makes it by vwrite_initial. */
+/* The state of a session. Its fields are the library's: a caller only keeps it, and makes it by vwrite_start. */
 typedef struct {
     uint16_t slot;
     uint8_t e[32];
@@ -148,7 +149,28 @@ typedef struct {
     uint16_t kind;
 } vwrite_dir;
 
-/* A fresh state, with the first session cluster. Before the first call *w holds zeros. */
+/* The refusal number (11, 20), and whether the body is as it must be. */
+typedef struct {
+    uint8_t no;
+    bool valid;
+} vwrite_body;
+
+/* What a call that may end the session answers: the refusal number (10); 0 where no release was due, 1 where one ran to its end, 2 where it was
+ * put off; whether there was anything to release. */
+typedef struct {
+    uint8_t no;
+    uint8_t ended;
+    bool had;
+} vwrite_end;
+
+/* The refusal number (10), whether a file is handed to deletion, and its row, 0 where none is. */
+typedef struct {
+    uint8_t no;
+    bool found;
+    size_t row;
+} vwrite_handed;
+
+/* A fresh state, with the first session cluster, for tests. Before the first call *w holds zeros. */
 void vwrite_initial(vwrite_state *w, uint32_t first);
 
 /* The sector written at lba is judged; shown is the one that the drive shows there. busy: the medium's bus is taken. The medium is fat, 3 to
@@ -174,6 +196,10 @@ bool vwrite_frozen(const vwrite_state *w, bool mounted);
 /* The chain of an update file by its start and size. */
 vwrite_chain vwrite_complete(const vwrite_state *w, uint32_t start, uint32_t size);
 
+/* Is the body of the update file with that start and size as it must be: its blocks decode, its length and CRC are those that it holds. */
+vwrite_body vwrite_body_check(const vwrite_state *w, const uint16_t *fat, size_t nfat, const uint8_t *area, size_t narea, uint32_t start,
+                              uint32_t size);
+
 /* Is the strict long name of a root slot from 7 to 511 housekeeping; sector is the one that the slot is in. */
 vwrite_strict vwrite_strict_name(const vwrite_state *w, const uint8_t *sector, size_t nsector, size_t slot);
 
@@ -183,5 +209,41 @@ vwrite_own vwrite_owner(const vwrite_file *files, size_t nfiles, uint32_t first,
 vwrite_dir vwrite_dir_kind(uint32_t c);
 
 uint32_t vwrite_nclus(uint32_t size);
+
+/* A start: takes the table only if it is acceptable, and sets the state anew, read-only, with the first session cluster; 10 otherwise, and the old
+ * table and state go on. The caller keeps the table and lends it to every later call as the last one left it. Before the first start *w holds
+ * zeros. */
+uint8_t vwrite_start(vwrite_state *w, const vwrite_file *files, size_t nfiles, uint32_t first);
+
+/* A tick of the clock, in milliseconds; it may go back. mounted: the computer has locked the medium. Ends a session whose held-back end is due or
+ * that was quiet for a minute. */
+vwrite_end vwrite_poll(vwrite_state *w, vwrite_file *files, size_t nfiles, uint64_t clock, bool mounted, const uint16_t *fat, size_t nfat,
+                       const uint8_t *area, size_t narea);
+
+/* The session's end: the computer unmounted the drive. Put off while an update file isn't decided. */
+vwrite_end vwrite_release(vwrite_state *w, vwrite_file *files, size_t nfiles, const uint16_t *fat, size_t nfat, const uint8_t *area, size_t narea);
+
+/* The same, put off by nothing; reset: locks go too. */
+vwrite_end vwrite_release_all(vwrite_state *w, vwrite_file *files, size_t nfiles, bool reset, const uint16_t *fat, size_t nfat, const uint8_t *area,
+                              size_t narea);
+
+/* A bus reset: vdisk's releases the session first; vwrite's only puts in force the mode that was asked for. */
+vwrite_end vdisk_on_bus_reset(vwrite_state *w, vwrite_file *files, size_t nfiles, const uint16_t *fat, size_t nfat, const uint8_t *area,
+                              size_t narea);
+
+void vwrite_on_bus_reset(vwrite_state *w);
+
+/* Ask for the read-only drive (on) or the one that can be written; in force from the next bus reset on. The mode in force, and the one asked for. */
+void vwrite_set_read_only(vwrite_state *w, bool on);
+
+bool vwrite_read_only(const vwrite_state *w);
+
+bool vwrite_read_only_pending(const vwrite_state *w);
+
+/* A file that is handed to deletion, if there is one. Report it gone once it is deleted, or was found to be another file: 21 for a row that isn't
+ * in the table or whose file isn't handed. */
+vwrite_handed vwrite_find_handed(const vwrite_file *files, size_t nfiles);
+
+uint8_t vwrite_report_gone(vwrite_file *files, size_t nfiles, size_t row);
 
 #endif

@@ -1,0 +1,160 @@
+//! The calls that make a session, on both sides.
+use super::*;
+
+impl Both {
+    pub fn body(&mut self, start: u32, size: u32) {
+        self.last = format!("body check {start} {size}");
+        let r = unsafe { vwrite_body_check(&self.w, self.fat.as_ptr(), self.lent.0, self.area.as_ptr(), self.lent.1, start, size) };
+        self.counts.add("body check", r.no);
+        let rust = if size < 128 {
+            Body { no: 11, valid: false }
+        } else {
+            original::body(start, size).map_or(Body { no: 20, valid: false }, |valid| Body { no: 0, valid })
+        };
+        self.equal("the answer", rust, r);
+        self.same();
+    }
+
+    /// A start; `acceptable` is what document 01 says of the table.
+    pub fn start(&mut self, files: &[File], first: u32, acceptable: bool) -> u8 {
+        self.last = format!("start {first} with {} files", files.len());
+        let n = unsafe { vwrite_start(&mut self.w, files.as_ptr(), files.len(), first) };
+        self.counts.add("start", n);
+        self.equal("the number", if acceptable { 0 } else { 10 }, n);
+        if n == 0 {
+            self.files = files.to_vec();
+            for (set_table, set_state) in [(original::set_table as fn(&[File], u32), original::set_state as fn(&State)), (numbered::set_table, numbered::set_state)] {
+                set_table(files, first);
+                set_state(&State::new(first));
+            }
+        }
+        self.same();
+        n
+    }
+
+    fn ended(&mut self, call: &'static str, r: End, stale: bool, had: Option<bool>) -> End {
+        self.counts.add(call, r.no);
+        self.equal("the number", 0, r.no);
+        self.same();
+        // A release that ran, or was put off, makes the listing stale where the Rust's caller does it; put off, the end is held back.
+        if stale {
+            self.equal("what ended", original::take_stale() > 0, r.ended != 0);
+        }
+        if r.ended != 0 {
+            self.equal("put off", self.w.end_at != 0, r.ended == 2);
+        }
+        if let Some(had) = had {
+            self.equal("had", had, r.had);
+        }
+        r
+    }
+
+    pub fn poll(&mut self, clock: u64, mounted: bool) -> End {
+        self.last = format!("poll {clock} mounted {mounted}");
+        original::take_stale();
+        original::poll(clock, mounted);
+        numbered::poll(clock, mounted);
+        let (fat, area) = (self.fat.as_ptr(), self.area.as_ptr());
+        let r = unsafe { vwrite_poll(&mut self.w, self.files.as_mut_ptr(), self.files.len(), clock, mounted, fat, self.lent.0, area, self.lent.1) };
+        self.ended("poll", r, true, None)
+    }
+
+    pub fn release(&mut self) -> End {
+        self.last = "release".into();
+        let had = original::release();
+        numbered::release();
+        let (fat, area) = (self.fat.as_ptr(), self.area.as_ptr());
+        let r = unsafe { vwrite_release(&mut self.w, self.files.as_mut_ptr(), self.files.len(), fat, self.lent.0, area, self.lent.1) };
+        self.ended("release", r, false, Some(had))
+    }
+
+    pub fn release_all(&mut self, reset: bool) -> End {
+        self.last = format!("release_all {reset}");
+        let had = original::release_all(reset);
+        numbered::release_all(reset);
+        let (fat, area) = (self.fat.as_ptr(), self.area.as_ptr());
+        let r = unsafe { vwrite_release_all(&mut self.w, self.files.as_mut_ptr(), self.files.len(), reset, fat, self.lent.0, area, self.lent.1) };
+        self.ended("release_all", r, false, Some(had))
+    }
+
+    pub fn bus_reset(&mut self) -> End {
+        self.last = "vdisk's on_bus_reset".into();
+        original::take_stale();
+        original::vdisk_on_bus_reset();
+        numbered::vdisk_on_bus_reset();
+        let (fat, area) = (self.fat.as_ptr(), self.area.as_ptr());
+        let r = unsafe { vdisk_on_bus_reset(&mut self.w, self.files.as_mut_ptr(), self.files.len(), fat, self.lent.0, area, self.lent.1) };
+        self.ended("vdisk on_bus_reset", r, true, None)
+    }
+
+    pub fn mode_reset(&mut self) {
+        self.last = "vwrite's on_bus_reset".into();
+        original::vwrite_on_bus_reset();
+        numbered::vwrite_on_bus_reset();
+        unsafe { vwrite_on_bus_reset(&mut self.w) };
+        self.counts.add("vwrite on_bus_reset", 0);
+        self.same();
+    }
+
+    pub fn set_read_only(&mut self, on: bool) {
+        self.last = format!("set_read_only {on}");
+        original::set_read_only(on);
+        numbered::set_read_only(on);
+        unsafe { vwrite_set_read_only(&mut self.w, on) };
+        self.counts.add("set_read_only", 0);
+        self.same();
+        let ours = unsafe { (vwrite_read_only(&self.w), vwrite_read_only_pending(&self.w)) };
+        self.equal("read_only, pending", (original::read_only(), original::read_only_pending()), ours);
+        self.counts.add("read_only", 0);
+        self.counts.add("read_only_pending", 0);
+    }
+
+    pub fn gone(&mut self, row: usize) -> u8 {
+        self.last = format!("report gone {row}");
+        let n = unsafe { vwrite_report_gone(self.files.as_mut_ptr(), self.files.len(), row) };
+        self.counts.add("report_gone", n);
+        let handed = original::table().get(row).is_some_and(|f| f.id & 0x7000 == 0x3000);
+        self.equal("the number", if handed { 0 } else { 21 }, n);
+        if handed {
+            original::report_gone(row);
+            numbered::report_gone(row);
+        }
+        self.same();
+        n
+    }
+
+    pub fn find_handed(&mut self) -> Option<usize> {
+        self.last = "find_handed".into();
+        let r = unsafe { vwrite_find_handed(self.files.as_ptr(), self.files.len()) };
+        self.counts.add("find_handed", r.no);
+        self.equal("is one handed", original::handed().is_some(), r.found);
+        if r.found {
+            self.equal("the row is handed", 0x3000, self.files[r.row].id & 0x7000);
+        }
+        r.found.then_some(r.row)
+    }
+
+    /// More than 400 files are refused by 10 at every call that is lent the table, and nothing changes.
+    pub fn too_many(&mut self, files: &mut Vec<File>) {
+        self.last = "calls with more than 400 files".into();
+        let given = files.clone();
+        let (p, n, fat, area, lent) = (files.as_mut_ptr(), files.len(), self.fat.as_ptr(), self.area.as_ptr(), self.lent);
+        let w = &mut self.w;
+        let numbers = unsafe {
+            [
+                vwrite_poll(w, p, n, 1, false, fat, lent.0, area, lent.1).no,
+                vwrite_release(w, p, n, fat, lent.0, area, lent.1).no,
+                vwrite_release_all(w, p, n, true, fat, lent.0, area, lent.1).no,
+                vdisk_on_bus_reset(w, p, n, fat, lent.0, area, lent.1).no,
+                vwrite_report_gone(p, n, 0),
+                vwrite_find_handed(p, n).no,
+                vwrite_owner(p, n, 7, 9).no,
+                vwrite_start(w, p, n, 7),
+            ]
+        };
+        self.equal("the numbers", [10; 8], numbers);
+        self.equal("the given table", &given, &files.clone());
+        self.counts.numbers[10] += 8;
+        self.same();
+    }
+}

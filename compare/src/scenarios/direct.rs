@@ -1,0 +1,126 @@
+//! States set directly: parked blocks, held numbers outside the medium, counts about to go round, ends held back.
+use super::{file_count, other_call, random};
+use crate::both::Both;
+use crate::hosts;
+use crate::rng::Rng;
+use crate::tables;
+use bindings::{Done, Pair, Rec, St, State, Stats, LAST_CLUSTER};
+
+/// A chain over staged clusters, its last link and what is staged about right.
+fn chain(r: &mut Rng, w: &mut State) -> (u32, u32) {
+    let n = r.range(1, 28) as usize;
+    let size = (n as u32 - 1) * bindings::CB + r.range(1, bindings::CB);
+    let start = r.range(w.first, LAST_CLUSTER - 60);
+    let whole = r.one_in(2);
+    for k in 0..n {
+        let c = start as u16 + 2 * k as u16;
+        let next = match r.below(60) {
+            0 => start as u16,
+            1 => c,
+            _ if k + 1 == n => r.pick(&[0xFFFF, 0xFFF8, 0xFFF7, 2]),
+            _ => c + 2,
+        };
+        w.pair[k] = Pair { c, v: next };
+        w.st[k] = St { c, sealed: false, ro: 0, map: if whole || !r.one_in(9) { u64::MAX } else { u64::MAX >> r.range(1, 63) }, blk: [0; 8] };
+    }
+    (start, size)
+}
+
+pub fn chains(r: &mut Rng, both: &mut Both) {
+    let mut w = State::new(r.range(7, 3000));
+    w.rw = true;
+    let (start, size) = chain(r, &mut w);
+    let (fat, area) = tables::any_medium(r);
+    both.set(w, &[], &fat, &area);
+    for size in [size, size + 1, size.saturating_sub(1), 127, 128, size.div_ceil(bindings::CB) * bindings::CB] {
+        both.complete(start, size);
+        both.body(start, size);
+    }
+}
+
+pub fn states(r: &mut Rng, both: &mut Both) {
+    let n = file_count(r);
+    let (mut files, first) = tables::table(r, n);
+    for f in &mut files {
+        if r.one_in(3) {
+            f.id |= (r.next() as u16) & 0xF000;
+        }
+    }
+    let (fat, area) = tables::any_medium(r);
+    let w = state(r, first, fat.len());
+    both.set(w, &files, &fat, &area);
+    for _ in 0..r.range(5, 60) {
+        if r.one_in(4) {
+            other_call(r, both);
+        }
+        random::write(r, both);
+    }
+}
+
+fn count(r: &mut Rng) -> u32 {
+    r.pick(&[0, 1, u32::MAX, u32::MAX - 1, 7])
+}
+
+fn time(r: &mut Rng) -> u64 {
+    r.pick(&[0, 1, 59_999, 60_000, 1_500, u64::MAX, u64::MAX - 1, 1 << 40])
+}
+
+fn cluster(r: &mut Rng, first: u32) -> u16 {
+    let near = r.range(first, first + 60).min(LAST_CLUSTER) as u16;
+    match r.below(4) {
+        0 => r.range(2, LAST_CLUSTER) as u16,
+        _ => near,
+    }
+}
+
+/// No cluster has two staging slots: no call leaves such a state, and docs/DECISIONS.md says what is read of one.
+fn state(r: &mut Rng, first: u32, entries: usize) -> State {
+    let mut w = State::new(first);
+    w.rw = !r.one_in(20);
+    w.want_rw = r.one_in(2);
+    w.boot = r.pick(&[0, 1, 255]);
+    w.fat1 = r.pick(&[0, 0x1_FFFF, 0x1_7FFF, 0x1_3FFF]);
+    for p in &mut w.pair {
+        if r.one_in(2) {
+            *p = Pair { c: cluster(r, first), v: r.pick(&[0xFFFF, 0xFFF8, 2, 65_001]) };
+        }
+    }
+    for k in 0..w.rec.len() {
+        if r.one_in(2) {
+            w.rec[k] = Rec { slot: r.range(7, 40) as u16 + 9 * k as u16, e: hosts::slot(b"DM40FW  BIN", 0x20, cluster(r, first), r.pick(&[127, 128, 600, 40_000])) };
+        }
+    }
+    for i in 0..w.st.len() {
+        let c = cluster(r, first);
+        if r.one_in(2) && w.st.iter().all(|x| x.c != c) {
+            w.st[i] = staged(r, c, entries);
+        }
+    }
+    (w.session, w.locks, w.staging) = (r.one_in(2), r.one_in(2), r.one_in(2));
+    (w.last, w.now_ms, w.stage_t, w.end_at) = (time(r), time(r), time(r), time(r) * r.one_in(3) as u64);
+    w.hint = r.pick(&[0, 1, 2, 5, entries as u32, u32::MAX]);
+    (w.err, w.fw) = (r.below(3) as u8, r.below(6) as u8);
+    w.ver = count(r);
+    let e = w.rec[r.below(w.rec.len())];
+    if r.one_in(2) {
+        let (start, size) = (u16::from_le_bytes([e.e[0x1A], e.e[0x1B]]), u32::from_le_bytes([e.e[0x1C], e.e[0x1D], e.e[0x1E], e.e[0x1F]]));
+        w.done = Done { slot: e.slot, start, size, ver: w.ver };
+    }
+    (w.parks, w.purged, w.purge) = (r.pick(&[0, 1, 100]), r.one_in(2), r.one_in(2));
+    w.n = Stats { ok: count(r), refused: count(r), busy: count(r), last_refused: r.next() as u32, deleted: 3, fw_ok: 65_535, fw_bad: 0 };
+    w
+}
+
+fn staged(r: &mut Rng, c: u16, entries: usize) -> St {
+    let mut s = St { c, sealed: r.one_in(5), ro: 0, map: r.next() & r.next(), blk: [0; 8] };
+    for b in &mut s.blk {
+        let inside = r.range(2, entries.max(3) as u32 - 1) as u16;
+        *b = match r.below(5) {
+            0 | 1 => 0,
+            2 => r.pick(&[entries as u16 + 1, 65_535, entries.max(2) as u16]),
+            _ => inside,
+        };
+    }
+    s.ro = if r.one_in(2) { r.next() as u8 } else { 0 };
+    s
+}

@@ -1,0 +1,91 @@
+//! The limits of every number.
+use super::{begin, reads};
+use crate::both::Both;
+use crate::hosts;
+use crate::rng::Rng;
+use bindings::{File, DATA_START, SPC, TOTAL};
+
+pub fn all(r: &mut Rng, both: &mut Both) {
+    begin(r, both, 3);
+    both.w.n.ok = u32::MAX - 1;
+    both.w.n.refused = u32::MAX - 1;
+    both.w.n.busy = u32::MAX - 1;
+    both.w.ver = u32::MAX - 1;
+    let (w, files) = (both.w, both.files.clone());
+    both.set_session(w, &files);
+    places(both);
+    lengths(r, both);
+    values(r, both);
+    names(r, both);
+    staging(r, both);
+    for _ in 0..4 {
+        reads(r, both);
+    }
+    for (c, s) in [(0, 64), (9, 64), (9, u32::MAX), (65_001, 63)] {
+        both.staged_read(c, s);
+    }
+    for size in [0, 1, 127, 128, 32_767, 32_768, 32_769, 917_504, 917_505, u32::MAX] {
+        both.layout(r.range(0, 65_010), size);
+        both.complete(9, size);
+        both.body(9, size);
+    }
+}
+
+fn places(both: &mut Both) {
+    for lba in [0, 1, 254, 255, 508, 509, 540, 541, 541 + 5 * 64 - 1, 541 + 5 * 64, TOTAL - 1, TOTAL, u32::MAX] {
+        let g = original::generated(lba);
+        both.write(lba, &g, &g, false);
+        let mut d = g;
+        d[0] ^= 1;
+        both.write(lba, &g, &d, false);
+        both.write(lba, &g, &d, true);
+    }
+}
+
+/// 1 and 10, which the Rust has no answer for.
+fn lengths(r: &mut Rng, both: &mut Both) {
+    let s = [0; 600];
+    let many = vec![File::default(); 401];
+    for (a, b) in [(511, 512), (512, 511), (513, 512), (512, 513), (0, 512), (512, 0)] {
+        both.write_refused(r.next() as u32, &s[..a], &s[..b], &[]);
+    }
+    both.write_refused(5_000_000, &s[..511], &s[..512], &many);
+    both.write_refused(5_000_000, &s[..512], &s[..512], &many);
+    both.too_many(&mut many.clone());
+    both.start(&many, 7, false);
+}
+
+fn values(r: &mut Rng, both: &mut Both) {
+    let free = super::free_clusters(r, both, 1);
+    for c in [0, 1, 2, both.w.first - 1, 65_002, 65_023].into_iter().chain(free) {
+        for v in [0, 1, 2, 0x3FFF, 0x7FFE, 0x7FFF, 0xBFFF, 65_001, 65_002, 0xFFF7, 0xFFF8, 0xFFFF] {
+            for change in hosts::entries(&[(c, v)], 2) {
+                let g = original::generated(change.lba);
+                both.write(change.lba, &g, &change.on(&g), false);
+            }
+        }
+    }
+}
+
+fn names(r: &mut Rng, both: &mut Both) {
+    let c = super::free_clusters(r, both, 1).first().copied().unwrap_or(9) as u16;
+    for slot in [0, 6, 7, 8, 15, 16, 511] {
+        for size in [0, 638_988, 638_989] {
+            for change in hosts::root_slots(slot, &[hosts::slot(b"DM40FW  BIN", 0x20, c, size)]) {
+                let g = original::generated(change.lba);
+                both.write(change.lba, &g, &change.on(&g), false);
+            }
+        }
+    }
+}
+
+fn staging(r: &mut Rng, both: &mut Both) {
+    for c in super::free_clusters(r, both, 30) {
+        for s in [0, 7, 8, 63] {
+            let lba = DATA_START + (c - 2) * SPC + s;
+            let g = original::generated(lba);
+            both.write(lba, &g, &[0; 512], false);
+            both.write(lba, &g, &[s as u8 + 1; 512], r.one_in(9));
+        }
+    }
+}

@@ -1,0 +1,140 @@
+//! Calls in the line form of the recordings (docs/RECORDING.md).
+use bindings::{File, Rec, Sector, St};
+
+/// One call. A sector that is written stands beside the one shown.
+#[derive(Clone, Debug)]
+pub enum Call {
+    Medium { entries: usize, bytes: usize, fill: u8 },
+    Fill { value: u16, from: usize, to: usize },
+    Entries { at: usize, values: Vec<u16> },
+    Data { at: usize, bytes: Vec<u8> },
+    Lend { entries: usize, bytes: usize },
+    Start { first: u32, files: Vec<File> },
+    Rw(bool),
+    Write { lba: u32, busy: bool, shown: Box<Sector>, written: Box<Sector> },
+    Poll { clock: u64, mounted: bool },
+    Release,
+    ReleaseAll { reset: bool },
+    BusReset,
+    ModeReset,
+    SetReadOnly(bool),
+    Gone(usize),
+    Handed,
+    State,
+    /// A part of the state set directly, for corners that no call reaches.
+    Set(Direct),
+}
+
+#[derive(Clone, Debug)]
+pub enum Direct {
+    Pair(usize, u16, u16),
+    Record(usize, Rec),
+    Slot(usize, St),
+    Field(String, u64),
+}
+
+fn num<T: std::str::FromStr>(w: &str, what: &str) -> Result<T, String> {
+    let digits = !w.is_empty() && w.bytes().all(|b| b.is_ascii_digit());
+    digits.then(|| w.parse().ok()).flatten().ok_or(format!("{w:?} isn't a {what}"))
+}
+
+fn hex(w: &str) -> Result<Vec<u8>, String> {
+    let byte = |i: usize| w.get(i..i + 2).and_then(|h| u8::from_str_radix(h, 16).ok()).ok_or(format!("{w:?} isn't bytes in hexadecimal digits"));
+    (0..w.len()).step_by(2).map(byte).collect()
+}
+
+fn flag(w: &str, what: &str) -> Result<bool, String> {
+    match w {
+        "0" => Ok(false),
+        "1" => Ok(true),
+        _ => Err(format!("the {what} is {w:?}, neither 0 nor 1")),
+    }
+}
+
+/// 1,024 hex digits, `z` (zeros) or `=` (as shown); then, after `@`, bytes that differ: OFFSET:HEX with commas between.
+fn sector(w: &str, shown: Option<&Sector>) -> Result<Sector, String> {
+    let (base, edits) = w.split_once('@').unwrap_or((w, ""));
+    let mut s = match (base, shown) {
+        ("z", _) => [0; 512],
+        ("=", Some(g)) => *g,
+        ("=", None) => return Err("the shown sector can't be `=`".to_string()),
+        _ => hex(base)?.try_into().map_err(|b: Vec<u8>| format!("a sector has {} bytes, not 512", b.len()))?,
+    };
+    for e in edits.split(',').filter(|e| !e.is_empty()) {
+        let (at, bytes) = e.split_once(':').ok_or(format!("{e:?} has no colon"))?;
+        let (at, bytes) = (num::<usize>(at, "offset")?, hex(bytes)?);
+        s.get_mut(at..at + bytes.len()).ok_or(format!("{e:?} goes past the sector's end"))?.copy_from_slice(&bytes);
+    }
+    Ok(s)
+}
+
+/// A row: id:slot:vstart:src:ssize:vsize.
+fn row(w: &str) -> Result<File, String> {
+    let f: Vec<&str> = w.split(':').collect();
+    let [id, slot, vstart, src, ssize, vsize] = f[..] else { return Err(format!("{w:?} isn't a row of six numbers")) };
+    let (id, slot, vstart, src) = (num(id, "file id")?, num(slot, "directory slot")?, num(vstart, "start cluster")?, num(src, "source cluster")?);
+    Ok(File { id, slot, vstart, src, ssize: num(ssize, "source size")?, vsize: num(vsize, "size")? })
+}
+
+fn write(place: &str, busy: &str, mounted: &str, shown: &str, written: &str) -> Result<Call, String> {
+    flag(mounted, "mounted flag")?;
+    let g = sector(shown, None)?;
+    let d = sector(written, Some(&g))?;
+    Ok(Call::Write { lba: num(place, "place")?, busy: flag(busy, "busy flag")?, shown: Box::new(g), written: Box::new(d) })
+}
+
+fn poll(clock: &str, busy: &str, mounted: &str) -> Result<Call, String> {
+    flag(busy, "busy flag")?;
+    Ok(Call::Poll { clock: num(clock, "clock")?, mounted: flag(mounted, "mounted flag")? })
+}
+
+fn place(w: &str, places: usize) -> Result<usize, String> {
+    num(w, "place").and_then(|i| if i < places { Ok(i) } else { Err(format!("there are {places} places, and {i} isn't one")) })
+}
+
+fn direct(name: &str, a: &[&str]) -> Result<Option<Call>, String> {
+    Ok(Some(Call::Set(match (name, a) {
+        ("pair", [i, c, v]) => Direct::Pair(place(i, bindings::NPAIR)?, num(c, "cluster")?, num(v, "value")?),
+        ("rec", [i, slot, e]) => {
+            let e = hex(e)?.try_into().map_err(|_| "a slot isn't 32 bytes")?;
+            Direct::Record(place(i, bindings::NREC)?, Rec { slot: num(slot, "slot")?, e })
+        }
+        ("slot", [i, c, sealed, ro, map, blocks @ ..]) => {
+            let blk: Vec<u16> = blocks.iter().map(|b| num(b, "block")).collect::<Result<_, _>>()?;
+            let blk = blk.try_into().map_err(|_| "a staging slot has eight blocks")?;
+            Direct::Slot(place(i, bindings::NST)?, St { c: num(c, "cluster")?, sealed: flag(sealed, "sealed flag")?, ro: num(ro, "byte")?, map: num(map, "map")?, blk })
+        }
+        ("set", [field, v]) => Direct::Field(field.to_string(), num(v, "number")?),
+        _ => return Err(format!("no such call, or not with {} words after it: {name:?}", a.len())),
+    })))
+}
+
+/// The call of a line; none of a remark.
+pub fn parse(line: &str) -> Result<Option<Call>, String> {
+    if line.starts_with('#') {
+        return Ok(None);
+    }
+    let mut words = line.split(' ');
+    let name = words.next().unwrap_or("");
+    let a: Vec<&str> = words.collect();
+    Ok(Some(match (name, &a[..]) {
+        ("medium", [n, len, fill]) => Call::Medium { entries: num(n, "number of entries")?, bytes: num(len, "number of bytes")?, fill: num(fill, "byte")? },
+        ("mfill", [v, from, to]) => Call::Fill { value: num(v, "value")?, from: num(from, "entry")?, to: num(to, "entry")? },
+        ("mfat", [at, values @ ..]) => Call::Entries { at: num(at, "entry")?, values: values.iter().map(|v| num(v, "value")).collect::<Result<_, _>>()? },
+        ("mdata", [at, bytes]) => Call::Data { at: num(at, "offset")?, bytes: hex(bytes)? },
+        ("lend", [n, len]) => Call::Lend { entries: num(n, "number of entries")?, bytes: num(len, "number of bytes")? },
+        ("start", [first, rows @ ..]) => Call::Start { first: num(first, "first session cluster")?, files: rows.iter().map(|w| row(w)).collect::<Result<_, _>>()? },
+        ("rw", [on]) => Call::Rw(flag(on, "mode")?),
+        ("write", [p, busy, mounted, shown, written]) => write(p, busy, mounted, shown, written)?,
+        ("poll", [clock, busy, mounted]) => poll(clock, busy, mounted)?,
+        ("release", []) => Call::Release,
+        ("release_all", [reset]) => Call::ReleaseAll { reset: flag(reset, "reset flag")? },
+        ("bus_reset", []) => Call::BusReset,
+        ("bus_reset_w", []) => Call::ModeReset,
+        ("set_read_only", [on]) => Call::SetReadOnly(flag(on, "mode")?),
+        ("gone", [j]) => Call::Gone(num(j, "row")?),
+        ("handed", []) => Call::Handed,
+        ("state", []) => Call::State,
+        _ => return direct(name, &a),
+    }))
+}
