@@ -177,6 +177,20 @@ pub fn recordings(folder: &str) {
     crate::tell(&both);
 }
 
+/// The programs hold a medium of up to 34 entries and 131,072 bytes; a line that reaches past it is bad.
+fn held(both: &Both, line: &str) -> Result<(), String> {
+    let (entries, bytes) = (both.fat.len(), both.area.len());
+    let fits = match line_form::parse(line)? {
+        Some(Call::Medium { entries, bytes, .. }) => entries <= 34 && bytes <= 131_072,
+        Some(Call::Fill { to, .. }) => to <= entries,
+        Some(Call::Entries { at, values }) => at + values.len() <= entries,
+        Some(Call::Data { at, bytes: new }) => at + new.len() <= bytes,
+        Some(Call::Lend { entries: n, bytes: len }) => n <= entries && len <= bytes,
+        _ => true,
+    };
+    if fits { Ok(()) } else { Err("past the medium".to_string()) }
+}
+
 /// What the program over the proved library prints for the same lines; the answers are the Rust's.
 pub fn answers(file: &str) {
     let text = fs::read_to_string(file).expect("the file");
@@ -185,7 +199,7 @@ pub fn answers(file: &str) {
         if line.starts_with('#') {
             continue;
         }
-        match call(&mut both, line) {
+        match held(&both, line).and_then(|_| call(&mut both, line)) {
             Ok(Said::Nothing) => {}
             Ok(Said::Number(n)) => println!("{} {n}", i + 1),
             Ok(Said::Ended(e)) => println!("{} {} ended {} had {}", i + 1, e.no, e.ended, e.had as u8),
@@ -202,6 +216,11 @@ fn shown(w: &State, files: &[File], area: &[u8]) -> String {
         "state rw {} boot {} fat1 {} session {} last {} staging {} stage_t {} hint {} err {} ver {} ok {} refused {} busy {} last_refused {}",
         w.rw as u8, w.boot, w.fat1, w.session as u8, w.last, w.staging as u8, w.stage_t, w.hint, w.err, w.ver, w.n.ok, w.n.refused, w.n.busy, w.n.last_refused
     );
+    let (d, n) = (&w.done, &w.n);
+    s += &format!(" want_rw {} locks {} now_ms {} fw {}", w.want_rw as u8, w.locks as u8, w.now_ms, w.fw);
+    s += &format!(" done.slot {} done.start {} done.size {} done.ver {} end_at {}", d.slot, d.start, d.size, d.ver, w.end_at);
+    s += &format!(" parks {} purged {} purge {}", w.parks, w.purged as u8, w.purge as u8);
+    s += &format!(" deleted {} fw_ok {} fw_bad {} first {}", n.deleted, n.fw_ok, n.fw_bad, w.first);
     s += "\npairs";
     for (i, p) in w.pair.iter().enumerate().filter(|(_, p)| p.c != 0) {
         s += &format!(" {i}:{}:{}", p.c, p.v);

@@ -53,15 +53,15 @@ fn flag(w: &str, what: &str) -> Result<bool, String> {
 
 /// 1,024 hex digits, `z` (zeros) or `=` (as shown); then, after `@`, bytes that differ: OFFSET:HEX with commas between.
 fn sector(w: &str, shown: Option<&Sector>) -> Result<Sector, String> {
-    let (base, edits) = w.split_once('@').unwrap_or((w, ""));
+    let (base, edits) = w.split_once('@').map_or((w, None), |(b, e)| (b, Some(e)));
     let mut s = match (base, shown) {
         ("z", _) => [0; 512],
         ("=", Some(g)) => *g,
         ("=", None) => return Err("the shown sector can't be `=`".to_string()),
         _ => hex(base)?.try_into().map_err(|b: Vec<u8>| format!("a sector has {} bytes, not 512", b.len()))?,
     };
-    for e in edits.split(',').filter(|e| !e.is_empty()) {
-        let (at, bytes) = e.split_once(':').ok_or(format!("{e:?} has no colon"))?;
+    for e in edits.iter().flat_map(|e| e.split(',')) {
+        let (at, bytes) = e.split_once(':').filter(|(_, b)| !b.is_empty()).ok_or(format!("{e:?} isn't an offset, a colon and bytes"))?;
         let (at, bytes) = (num::<usize>(at, "offset")?, hex(bytes)?);
         s.get_mut(at..at + bytes.len()).ok_or(format!("{e:?} goes past the sector's end"))?.copy_from_slice(&bytes);
     }
@@ -88,6 +88,14 @@ fn poll(clock: &str, busy: &str, mounted: &str) -> Result<Call, String> {
     Ok(Call::Poll { clock: num(clock, "clock")?, mounted: flag(mounted, "mounted flag")? })
 }
 
+fn fill(v: &str, from: &str, to: &str) -> Result<Call, String> {
+    let (value, from, to) = (num(v, "value")?, num(from, "entry")?, num(to, "entry")?);
+    if from > to {
+        return Err(format!("entries from {from} to before {to} are none"));
+    }
+    Ok(Call::Fill { value, from, to })
+}
+
 fn place(w: &str, places: usize) -> Result<usize, String> {
     num(w, "place").and_then(|i| if i < places { Ok(i) } else { Err(format!("there are {places} places, and {i} isn't one")) })
 }
@@ -104,7 +112,17 @@ fn direct(name: &str, a: &[&str]) -> Result<Option<Call>, String> {
             let blk = blk.try_into().map_err(|_| "a staging slot has eight blocks")?;
             Direct::Slot(place(i, bindings::NST)?, St { c: num(c, "cluster")?, sealed: flag(sealed, "sealed flag")?, ro: num(ro, "byte")?, map: num(map, "map")?, blk })
         }
-        ("set", [field, v]) => Direct::Field(field.to_string(), num(v, "number")?),
+        ("set", [field, v]) => {
+            let most = match *field {
+                "hint" | "ver" | "fat1" | "ok" | "refused" | "busy" => u32::MAX as u64,
+                "now_ms" | "last" => u64::MAX,
+                "boot" => 255,
+                "staging" | "session" => 1,
+                _ => return Err(format!("no field {field:?} is set so")),
+            };
+            let v: u64 = num(v, "number")?;
+            Direct::Field(field.to_string(), if v <= most { v } else { return Err(format!("{field} is {most} at most")) })
+        }
         _ => return Err(format!("no such call, or not with {} words after it: {name:?}", a.len())),
     })))
 }
@@ -119,7 +137,7 @@ pub fn parse(line: &str) -> Result<Option<Call>, String> {
     let a: Vec<&str> = words.collect();
     Ok(Some(match (name, &a[..]) {
         ("medium", [n, len, fill]) => Call::Medium { entries: num(n, "number of entries")?, bytes: num(len, "number of bytes")?, fill: num(fill, "byte")? },
-        ("mfill", [v, from, to]) => Call::Fill { value: num(v, "value")?, from: num(from, "entry")?, to: num(to, "entry")? },
+        ("mfill", [v, from, to]) => fill(v, from, to)?,
         ("mfat", [at, values @ ..]) => Call::Entries { at: num(at, "entry")?, values: values.iter().map(|v| num(v, "value")).collect::<Result<_, _>>()? },
         ("mdata", [at, bytes]) => Call::Data { at: num(at, "offset")?, bytes: hex(bytes)? },
         ("lend", [n, len]) => Call::Lend { entries: num(n, "number of entries")?, bytes: num(len, "number of bytes")? },

@@ -1,34 +1,33 @@
-use mathlib.Core.Path.{_≡_, sym}
-use lib.ListN.{length}
+use mathlib.Core.Path.{sym}
 use lib.Seq.{length-take-le}
 use native.Mathlib.Omega.{arith}
 use borrow.Author.Needs.{needs}
 use Rattle.recording.proofs.calls.on_table.Statement.{statement}
 use Rattle.recording.proofs.calls.on_table.Tie as tie
 
-array-borrow-prefix-ids : tie.Need-array-borrow-prefix-ids
-array-borrow-prefix-ids c = let h : length (c .before .before .before .before .before .before .before .before .args .t .ids) ≡ 400 = search needs in omega arith
+slice-aggregate-word : tie.Need-slice-aggregate-word
+slice-aggregate-word c = sym (length-take-le _ _ (omega arith))
 
-slice-aggregate-write : tie.Need-slice-aggregate-write
-slice-aggregate-write c = let h : length (c .before .before .before .before .before .before .before .before .before .args .t .ids) ≡ 400 = search needs in sym (length-take-le _ _ (omega arith))
+add-at : tie.Need-add-at
+add-at c = search needs
 
-array-share-prefix-slots : tie.Need-array-share-prefix-slots
-array-share-prefix-slots c = let h : length (c .before .before .before .before .before .before .before .before .before .args .t .slots) ≡ 400 = search needs in omega arith
+slice-aggregate-is-word : tie.Need-slice-aggregate-is-word
+slice-aggregate-is-word c = search needs
 
-slice-aggregate-write-2 : tie.Need-slice-aggregate-write-2
-slice-aggregate-write-2 c = let h : length (c .before .before .before .before .before .before .before .before .before .before .args .t .slots) ≡ 400 = search needs in sym (length-take-le _ _ (omega arith))
+is-word-requires : tie.Need-is-word-requires
+is-word-requires c κs = search needs
 
-array-share-prefix-starts : tie.Need-array-share-prefix-starts
-array-share-prefix-starts c = let h : length (c .before .before .before .before .before .before .before .before .before .before .args .t .starts) ≡ 400 = search needs in omega arith
+start-requires : tie.Need-start-requires
+start-requires c κs = search needs
 
-slice-aggregate-write-3 : tie.Need-slice-aggregate-write-3
-slice-aggregate-write-3 c = let h : length (c .before .before .before .before .before .before .before .before .before .before .before .args .t .starts) ≡ 400 = search needs in sym (length-take-le _ _ (omega arith))
+returns : tie.Need-returns
+returns c = search needs
 
-array-share-prefix-sizes : tie.Need-array-share-prefix-sizes
-array-share-prefix-sizes c = let h : length (c .before .before .before .before .before .before .before .before .before .before .before .args .t .sizes) ≡ 400 = search needs in omega arith
+slice-aggregate-is-word-2 : tie.Need-slice-aggregate-is-word-2
+slice-aggregate-is-word-2 c = search needs
 
-slice-aggregate-write-4 : tie.Need-slice-aggregate-write-4
-slice-aggregate-write-4 c = let h : length (c .before .before .before .before .before .before .before .before .before .before .before .before .args .t .sizes) ≡ 400 = search needs in sym (length-take-le _ _ (omega arith))
+is-word-requires-2 : tie.Need-is-word-requires-2
+is-word-requires-2 c κs = search needs
 
 write-requires : tie.Need-write-requires
 write-requires c κs = search needs
@@ -36,21 +35,105 @@ write-requires c κs = search needs
 same-length : tie.Need-same-length
 same-length c = search needs
 
-returns : tie.Need-returns
-returns c = let e = c .before .before .before .before .write .ensures in (e .0, (e .1 .0, e .1 .1 .1))
+same-length-2 : tie.Need-same-length-2
+same-length-2 c = search needs
+
+returns-2 : tie.Need-returns-2
+returns-2 c = search needs
+
+slice-aggregate-is-word-3 : tie.Need-slice-aggregate-is-word-3
+slice-aggregate-is-word-3 c = search needs
+
+is-word-requires-3 : tie.Need-is-word-requires-3
+is-word-requires-3 c κs = search needs
+
+poll-requires : tie.Need-poll-requires
+poll-requires c κs = search needs
+
+same-length-3 : tie.Need-same-length-3
+same-length-3 c = search needs
+
+same-length-4 : tie.Need-same-length-4
+same-length-4 c = search needs
+
+returns-3 : tie.Need-returns-3
+returns-3 c = search needs
+
+slice-aggregate-is-word-4 : tie.Need-slice-aggregate-is-word-4
+slice-aggregate-is-word-4 c = search needs
+
+is-word-requires-4 : tie.Need-is-word-requires-4
+is-word-requires-4 c κs = search needs
+
+release-all-requires : tie.Need-release-all-requires
+release-all-requires c κs = search needs
+
+same-length-5 : tie.Need-same-length-5
+same-length-5 c = search needs
+
+same-length-6 : tie.Need-same-length-6
+same-length-6 c = search needs
+
+returns-4 : tie.Need-returns-4
+returns-4 c = search needs
+
+slice-aggregate-is-word-5 : tie.Need-slice-aggregate-is-word-5
+slice-aggregate-is-word-5 c = search needs
+
+is-word-requires-5 : tie.Need-is-word-requires-5
+is-word-requires-5 c κs = search needs
+
+gone-requires : tie.Need-gone-requires
+gone-requires c κs = search needs
+
+returns-5 : tie.Need-returns-5
+returns-5 c = search needs
+
+on-state-requires : tie.Need-on-state-requires
+on-state-requires c κs = search needs
+
+same-length-7 : tie.Need-same-length-7
+same-length-7 c = search needs
+
+same-length-8 : tie.Need-same-length-8
+same-length-8 c = search needs
+
+returns-6 : tie.Need-returns-6
+returns-6 c = search needs
 
 pub on-table-spec : {M : Type 1} → statement M
 on-table-spec =
     tie.close
     (tie.spec
-    array-borrow-prefix-ids
-    slice-aggregate-write
-    array-share-prefix-slots
-    slice-aggregate-write-2
-    array-share-prefix-starts
-    slice-aggregate-write-3
-    array-share-prefix-sizes
-    slice-aggregate-write-4
+    slice-aggregate-word
+    add-at
+    slice-aggregate-is-word
+    is-word-requires
+    start-requires
+    returns
+    slice-aggregate-is-word-2
+    is-word-requires-2
     write-requires
     same-length
-    returns)
+    same-length-2
+    returns-2
+    slice-aggregate-is-word-3
+    is-word-requires-3
+    poll-requires
+    same-length-3
+    same-length-4
+    returns-3
+    slice-aggregate-is-word-4
+    is-word-requires-4
+    release-all-requires
+    same-length-5
+    same-length-6
+    returns-4
+    slice-aggregate-is-word-5
+    is-word-requires-5
+    gone-requires
+    returns-5
+    on-state-requires
+    same-length-7
+    same-length-8
+    returns-6)

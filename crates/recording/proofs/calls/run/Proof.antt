@@ -2,8 +2,8 @@ use borrow.Author.Needs.{needs}
 use Rattle.recording.proofs.calls.run.Statement.{statement}
 use Rattle.recording.proofs.calls.run.Tie as tie
 
-say-requires : tie.Need-say-requires
-say-requires c κs = search needs
+answer-requires : tie.Need-answer-requires
+answer-requires c κs = search needs
 
 returns : tie.Need-returns
 returns c = search needs
@@ -17,8 +17,8 @@ returns-2 c = search needs
 call-requires : tie.Need-call-requires
 call-requires c κs = search needs
 
-say-requires-2 : tie.Need-say-requires-2
-say-requires-2 c κs = search needs
+answer-requires-2 : tie.Need-answer-requires-2
+answer-requires-2 c κs = search needs
 
 same-length : tie.Need-same-length
 same-length c = search needs
@@ -33,12 +33,12 @@ pub run-spec : {M : Type 1} → statement M
 run-spec =
     tie.close
     (tie.spec
-    say-requires
+    answer-requires
     returns
     shared-slice-read-if2
     returns-2
     call-requires
-    say-requires-2
+    answer-requires-2
     same-length
     same-length-2
     returns-3)

@@ -1,0 +1,2 @@
+// The lines that make a medium.
+pub mod media;

@@ -1,0 +1,3 @@
+-- What the lines of a recording go on from.
+pub mod Steps
+pub mod StepLaws

@@ -1,0 +1,2 @@
+// What the lines of a recording go on from.
+pub mod session;

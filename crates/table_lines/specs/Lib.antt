@@ -1,0 +1,3 @@
+-- The lines of the table.
+pub mod Rows
+pub mod RowLaws

@@ -1,0 +1,3 @@
+// The lines of the table: a start, and reports of gone.
+pub mod gone;
+pub mod start;

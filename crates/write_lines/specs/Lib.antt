@@ -1,0 +1,3 @@
+-- The lines of written sectors.
+pub mod Writes
+pub mod WriteLaws

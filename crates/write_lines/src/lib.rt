@@ -1,0 +1,3 @@
+// The lines of written sectors.
+mod sectors;
+pub mod writes;
