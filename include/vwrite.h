@@ -1,4 +1,5 @@
-/* How written sectors of the mixer's USB drive are judged: the calls of libvwrite.a, and, from vwrite_start on, of libvwrite_sessions.a.
+/* How written sectors of the mixer's USB drive are judged: the calls of libvwrite.a, and, from vwrite_start on, of libvwrite_sessions.a,
+ * and, from vwrite_named on, of libvwrite_reasons.a.
  *
  * The caller owns everything: the state, the table of files, the sectors, and the medium. A call reads and writes what it is lent only while it
  * runs, keeps no pointer, and allocates nothing. What is passed by a pointer that is not const may be written; no two of those may overlap each
@@ -245,5 +246,33 @@ bool vwrite_read_only_pending(const vwrite_state *w);
 vwrite_handed vwrite_find_handed(const vwrite_file *files, size_t nfiles);
 
 uint8_t vwrite_report_gone(vwrite_file *files, size_t nfiles, size_t row);
+
+/* Why a file is handed, or what is missing, for programs that tell it. Of one file: what the calls held of it since the start, or since the completed
+ * release that last left it unmarked. A file is handed only if it was turned, and zeroed or named. All false at the start; then kept up after every
+ * call by the three functions below. */
+typedef struct {
+    bool turned;
+    bool zeroed;
+    bool named;
+    bool gone;
+} vwrite_reason;
+
+typedef struct {
+    bool named;
+} vwrite_named_answer;
+
+/* Does a staged sector name the file with that start and size, as the medium stands. */
+vwrite_named_answer vwrite_named(const vwrite_state *w, const uint16_t *fat, size_t nfat, const uint8_t *area, size_t narea, uint16_t start,
+                                 uint32_t size);
+
+/* After vwrite_write, which answered number. id, slot, start and size are the file's. */
+vwrite_reason vwrite_after_write(vwrite_reason r, uint16_t id, uint16_t slot, uint16_t start, uint32_t size, uint8_t number, uint32_t lba,
+                                 const uint8_t *shown, size_t nshown, const uint8_t *written, size_t nwritten);
+
+/* After a call that answered a vwrite_end: its ended, the file's id then, and whether a staged sector named the file before the call. */
+vwrite_reason vwrite_after_end(vwrite_reason r, uint8_t ended, uint16_t id, bool named);
+
+/* After vwrite_report_gone of a row, which answered number; the file is in row j. */
+vwrite_reason vwrite_after_gone(vwrite_reason r, uint8_t number, size_t row, size_t j);
 
 #endif

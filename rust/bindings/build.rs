@@ -2,7 +2,7 @@
 fn main() {
     let here = std::env::var("CARGO_MANIFEST_DIR").unwrap();
     println!("cargo:rustc-link-search=native={here}/../../target/staticlib");
-    for name in ["vwrite", "vwrite_sessions"] {
+    for name in ["vwrite", "vwrite_sessions", "vwrite_reasons"] {
         println!("cargo:rustc-link-lib=static={name}");
         println!("cargo:rerun-if-changed={here}/../../target/staticlib/lib{name}.a");
     }

@@ -4,6 +4,7 @@ use chains::Chain;
 use file_table::MAX_VF;
 use files::Columns;
 use medium::reads::StagedRead;
+use medium::reads::moved_ref;
 use records::RootRec;
 use root_slots::Strict;
 use state::pairs::PairOf;
@@ -16,11 +17,11 @@ ghost use mathlib.Core.Path.{_≡_};
 ghost use Rattle.records.specs.Records.{rootRec};
 ghost use Rattle.vdisk.specs.Drive.{dirKindOf};
 ghost use Rattle.state.specs.Pairs.{pairOf};
-ghost use Rattle.medium.specs.Reads.{stagedAnswer, stagedBytes};
+ghost use Rattle.medium.specs.Reads.{stagedAnswer, stagedBytes, movedRef};
 ghost use Rattle.chains.specs.Chains.{completeOf};
 ghost use Rattle.body.specs.Body.{bodyOf};
 ghost use Rattle.root_slots.specs.RootSlots.{strictOf};
-ghost use Rattle.state_calls.specs.Answers.{pairAnswer, dirAnswer, ownAnswer, columnsOwner};
+ghost use Rattle.state_calls.specs.Answers.{namedAnswer, pairAnswer, dirAnswer, ownAnswer, columnsOwner};
 
 // The host's FAT entry of a cluster: is there one, and its value, 0 where there is none.
 #[repr(C)]
@@ -43,6 +44,12 @@ pub struct OwnAnswer {
     pub no: u8,
     pub owner: u8,
     pub row: usize,
+}
+
+// Does a staged sector name a file.
+#[repr(C)]
+pub struct NamedAnswer {
+    pub named: bool,
 }
 
 pub fn staged_read(w: W, fat: &[u16], area: &[u8], c: u32, s: u32, out: &mut [u8]) -> StagedRead
@@ -151,4 +158,14 @@ pub fn owner(t: Columns, first: u32, c: u32) -> OwnAnswer
     let sorted = rising(&starts[..n]);
     let o = vdisk::owner::owner(&starts[..n], &sizes[..n], sorted, first, c);
     own_answer(o)
+}
+
+// Does a staged sector hold an ordinary slot with that start and size.
+pub fn named(w: W, fat: &[u16], area: &[u8], start: u16, size: u32) -> NamedAnswer
+    ensures { λ r. ⌜ r ≡ namedAnswer (movedRef (now (fat .entry)) (now (area .entry)) (w .st) start size) ⌝ }
+{
+    let st = w.st;
+    NamedAnswer {
+        named: moved_ref(fat, area, st, start, size),
+    }
 }

@@ -68,6 +68,13 @@ pub struct Handed {
     pub row: usize,
 }
 
+/// Does a staged sector name a file.
+#[repr(C)]
+#[derive(Clone, Copy, Debug, PartialEq, Eq)]
+pub struct Named {
+    pub named: bool,
+}
+
 /// What the calls since a file's last start, or release that left it unmarked, held of it.
 #[repr(C)]
 #[derive(Clone, Copy, Debug, PartialEq, Eq, Default)]
@@ -125,7 +132,7 @@ extern "C" {
     pub fn vwrite_read_only_pending(w: *const State) -> bool;
     pub fn vwrite_find_handed(files: *const File, nfiles: usize) -> Handed;
     pub fn vwrite_report_gone(files: *mut File, nfiles: usize, row: usize) -> u8;
-    pub fn vwrite_named(w: *const State, fat: *const u16, nfat: usize, area: *const u8, narea: usize, start: u16, size: u32) -> bool;
+    pub fn vwrite_named(w: *const State, fat: *const u16, nfat: usize, area: *const u8, narea: usize, start: u16, size: u32) -> Named;
     #[rustfmt::skip]
     pub fn vwrite_after_write(
         r: Reason, id: u16, slot: u16, start: u16, size: u32, number: u8, lba: u32, shown: *const u8, nshown: usize, written: *const u8, nwritten: usize,

@@ -39,8 +39,9 @@ fn num<T: std::str::FromStr>(w: &str, what: &str) -> Result<T, String> {
 }
 
 fn hex(w: &str) -> Result<Vec<u8>, String> {
-    let byte = |i: usize| w.get(i..i + 2).and_then(|h| u8::from_str_radix(h, 16).ok()).ok_or(format!("{w:?} isn't bytes in hexadecimal digits"));
-    (0..w.len()).step_by(2).map(byte).collect()
+    let digit = |d: u8| (d as char).to_digit(16).map(|v| v as u8);
+    let pair = |p: &[u8]| Some(digit(p[0])? << 4 | digit(*p.get(1)?)?);
+    w.as_bytes().chunks(2).map(pair).collect::<Option<Vec<u8>>>().ok_or(format!("{:?} isn't bytes in hexadecimal digits", w.chars().take(40).collect::<String>()))
 }
 
 fn flag(w: &str, what: &str) -> Result<bool, String> {

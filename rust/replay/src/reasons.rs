@@ -1,0 +1,105 @@
+//! Why a file is handed, or what is missing: demand 3's own conditions, kept up from call to call by the proved library, with the lines that met them.
+use crate::session::Session;
+use bindings::calls::*;
+use bindings::{File, State};
+use line_form::Call;
+
+/// Of one file: what the calls held of it since the line `since`, and the lines that first did.
+#[derive(Clone, Copy)]
+pub struct Why {
+    reason: Reason,
+    since: usize,
+    turned: usize,
+    zeroed: usize,
+    named: usize,
+    gone: usize,
+}
+
+impl Why {
+    fn new(since: usize) -> Why {
+        Why { reason: Reason::default(), since, turned: 0, zeroed: 0, named: 0, gone: 0 }
+    }
+
+    /// The reason as the library gives it after the call of this line.
+    fn becomes(&mut self, reason: Reason, line: usize) {
+        let was = std::mem::replace(&mut self.reason, reason);
+        let parts = [(was.turned, reason.turned, &mut self.turned), (was.zeroed, reason.zeroed, &mut self.zeroed), (was.named, reason.named, &mut self.named), (was.gone, reason.gone, &mut self.gone)];
+        for (before, after, at) in parts {
+            if after && !before {
+                *at = line;
+            }
+        }
+    }
+
+    /// A release that left the file unmarked: what was before it no longer counts.
+    fn forgets(&mut self, line: usize) {
+        *self = Why::new(line);
+    }
+}
+
+/// Of every row of the table.
+pub struct Reasons {
+    pub rows: Vec<Why>,
+    start: usize,
+}
+
+impl Reasons {
+    pub fn new() -> Reasons {
+        Reasons { rows: vec![], start: 0 }
+    }
+
+    /// A start that took its table.
+    pub fn started(&mut self, files: usize, line: usize) {
+        self.rows = vec![Why::new(line); files];
+        self.start = line;
+    }
+
+    pub fn written(&mut self, files: &[File], call: &Call, number: u8, line: usize) {
+        let Call::Write { lba, shown, written, .. } = call else { return };
+        for (why, f) in self.rows.iter_mut().zip(files) {
+            let reason = unsafe { vwrite_after_write(why.reason, f.id, f.slot, f.vstart, f.vsize, number, *lba, shown.as_ptr(), 512, written.as_ptr(), 512) };
+            why.becomes(reason, line);
+        }
+    }
+
+    /// A call that may end the session; `met` is the state that it met. Only a release that ran to its end asks which files were named then.
+    pub fn ended(&mut self, session: &Session, met: &State, ended: u8, line: usize) {
+        for (why, f) in self.rows.iter_mut().zip(&session.files) {
+            let named = ended == 1 && session.names(met, f);
+            let reason = unsafe { vwrite_after_end(why.reason, ended, f.id, named) };
+            match ended == 1 && f.id & 0xF000 == 0 {
+                true => why.forgets(line),
+                false => why.becomes(reason, line),
+            }
+        }
+    }
+
+    pub fn reported(&mut self, number: u8, row: usize, line: usize) {
+        for (j, why) in self.rows.iter_mut().enumerate() {
+            let reason = unsafe { vwrite_after_gone(why.reason, number, row, j) };
+            why.becomes(reason, line);
+        }
+    }
+
+    /// One sentence on a file: what its state rests on, by line, or what is missing.
+    pub fn sentence(&self, j: usize, handed: bool) -> String {
+        let why = &self.rows[j];
+        let r = why.reason;
+        let since = match why.since == self.start {
+            true => format!("since the start in line {}", why.since),
+            false => format!("since the release in line {}, which left it unmarked", why.since),
+        };
+        if !r.turned && !r.zeroed && !r.named {
+            return format!("not handed: nothing gave it up {since}");
+        }
+        let parts = [(r.turned, "turned", why.turned), (r.zeroed, "its entries zeroed", why.zeroed), (r.named, "named by a staged sector at the release", why.named), (r.gone, "reported gone", why.gone)];
+        let mut told: Vec<String> = parts.iter().filter(|p| p.0).map(|(_, what, at)| format!("{what} in line {at}")).collect();
+        if !handed && !r.turned {
+            told.push("but not turned".to_string());
+        }
+        if !handed && !r.zeroed && !r.named {
+            told.push("but its entries not zeroed, nor named at a release".to_string());
+        }
+        format!("{}: {}, {since}", if handed { "handed" } else { "not handed" }, told.join(", "))
+    }
+}
