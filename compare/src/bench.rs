@@ -1,7 +1,7 @@
 //! Times of both sides from one driver on the same inputs: cycles of each call, medians of interleaved runs, and their ratio.
 use crate::hosts::{self, Change};
-use bindings::calls::*;
 use crate::rng::Rng;
+use bindings::calls::*;
 use bindings::{File, Sector, State, CB, DATA_START, SPC};
 use std::arch::x86_64::{__rdtscp, _mm_lfence};
 
@@ -153,7 +153,9 @@ fn update(s: &mut Start, size: u32) {
         assert_eq!(ours_write(s, c.lba, &g, &d), 0);
     }
     let start = clusters[0];
-    both("complete, 600,000 bytes", s, 2001, &mut || told(original::complete(start, size)), &mut |s| told(unsafe { vwrite_complete(&s.w, start, size) }));
+    both("complete, 600,000 bytes", s, 2001, &mut || told(original::complete(start, size)), &mut |s| {
+        told(unsafe { vwrite_complete(&s.w, start, size) })
+    });
     both("body check, 600,000 bytes", s, 101, &mut || told(original::body(start, size)), &mut |s| {
         told(unsafe { vwrite_body_check(&s.w, s.fat.as_ptr(), s.fat.len(), s.area.as_ptr(), s.area.len(), start, size) })
     });

@@ -32,7 +32,12 @@ pub fn merged(changes: Vec<Change>) -> Vec<Change> {
 
 /// FAT entries in one of the copies, or in both.
 pub fn entries(list: &[(u32, u16)], copies: u32) -> Vec<Change> {
-    let one = |copy: u32| list.iter().map(move |&(c, v)| Change { lba: FAT_START + copy * FAT_SECS + c / 256, edits: vec![((c % 256) as usize * 2, v.to_le_bytes().to_vec())] });
+    let one = |copy: u32| {
+        list.iter().map(move |&(c, v)| Change {
+            lba: FAT_START + copy * FAT_SECS + c / 256,
+            edits: vec![((c % 256) as usize * 2, v.to_le_bytes().to_vec())],
+        })
+    };
     merged((0..copies).flat_map(one).collect())
 }
 

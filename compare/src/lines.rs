@@ -108,7 +108,9 @@ fn call(both: &mut Both, line: &str) -> Result<Said, String> {
 /// Does what was said agree with the recorded remark of the Rust's answer.
 fn agrees(said: &Said, remark: &str) -> bool {
     match (said, remark) {
-        (Said::Number(n), _) if remark.contains("num=") => remark.split(' ').any(|w| w == format!("num={n}")) && remark.starts_with("ok") == (*n == 0),
+        (Said::Number(n), _) if remark.contains("num=") => {
+            remark.split(' ').any(|w| w == format!("num={n}")) && remark.starts_with("ok") == (*n == 0)
+        }
         (Said::Number(n), "ok") => *n == 0,
         (Said::Rows(rows), "none") => rows.is_empty(),
         (Said::Rows(rows), _) => rows.iter().map(|j| j.to_string()).collect::<Vec<_>>().join(" ") == remark,
@@ -152,7 +154,8 @@ fn recording(both: &mut Both, path: &std::path::Path) -> Result<(u64, u64), Stri
 
 /// Every recording of a folder: both sides equal, every recorded answer as given.
 pub fn recordings(folder: &str) {
-    let mut paths: Vec<_> = fs::read_dir(folder).expect("the folder").map(|e| e.unwrap().path()).filter(|p| p.extension().is_some_and(|x| x == "txt")).collect();
+    let mut paths: Vec<_> =
+        fs::read_dir(folder).expect("the folder").map(|e| e.unwrap().path()).filter(|p| p.extension().is_some_and(|x| x == "txt")).collect();
     paths.sort();
     let mut both = Both::new();
     let (mut calls, mut checked) = (0, 0);
@@ -188,7 +191,11 @@ fn held(both: &Both, line: &str) -> Result<(), String> {
         Some(Call::Lend { entries: n, bytes: len }) => n <= entries && len <= bytes,
         _ => true,
     };
-    if fits { Ok(()) } else { Err("past the medium".to_string()) }
+    if fits {
+        Ok(())
+    } else {
+        Err("past the medium".to_string())
+    }
 }
 
 /// What the program over the proved library prints for the same lines; the answers are the Rust's.
@@ -214,7 +221,20 @@ pub fn answers(file: &str) {
 fn shown(w: &State, files: &[File], area: &[u8]) -> String {
     let mut s = format!(
         "state rw {} boot {} fat1 {} session {} last {} staging {} stage_t {} hint {} err {} ver {} ok {} refused {} busy {} last_refused {}",
-        w.rw as u8, w.boot, w.fat1, w.session as u8, w.last, w.staging as u8, w.stage_t, w.hint, w.err, w.ver, w.n.ok, w.n.refused, w.n.busy, w.n.last_refused
+        w.rw as u8,
+        w.boot,
+        w.fat1,
+        w.session as u8,
+        w.last,
+        w.staging as u8,
+        w.stage_t,
+        w.hint,
+        w.err,
+        w.ver,
+        w.n.ok,
+        w.n.refused,
+        w.n.busy,
+        w.n.last_refused
     );
     let (d, n) = (&w.done, &w.n);
     s += &format!(" want_rw {} locks {} now_ms {} fw {}", w.want_rw as u8, w.locks as u8, w.now_ms, w.fw);

@@ -60,7 +60,14 @@ pub fn table(r: &mut Rng, n: usize) -> (Vec<File>, u32) {
         };
         let kind = r.below(4) as u16;
         number += 1 + r.one_in(9) as u16;
-        let f = File { id: kind << 10 | number, slot: slots[shown_dir(kind << 10) as usize], vstart: c as u16, src: r.next() as u16, ssize: r.next() as u32, vsize };
+        let f = File {
+            id: kind << 10 | number,
+            slot: slots[shown_dir(kind << 10) as usize],
+            vstart: c as u16,
+            src: r.next() as u16,
+            ssize: r.next() as u32,
+            vsize,
+        };
         if number > 1023 || c + clusters(&f).max(1) > LAST_CLUSTER + 1 {
             break;
         }

@@ -27,7 +27,11 @@ fn serve(port: u16, recording: &str) -> std::io::Result<()> {
 }
 
 pub fn told(handed: Vec<String>) -> String {
-    if handed.is_empty() { "none".to_string() } else { handed.join(", ") }
+    if handed.is_empty() {
+        "none".to_string()
+    } else {
+        handed.join(", ")
+    }
 }
 
 fn main() {

@@ -34,7 +34,8 @@ fn table() -> Vec<File> {
 
 impl Mixer {
     pub fn new(record: Box<dyn Write + Send>) -> Mixer {
-        let mut m = Mixer { w: State::new(FIRST), files: table(), fat: vec![0; 4_094], area: vec![0xFF; 4_092 * 4096], since: Instant::now(), record };
+        let mut m =
+            Mixer { w: State::new(FIRST), files: table(), fat: vec![0; 4_094], area: vec![0xFF; 4_092 * 4096], since: Instant::now(), record };
         let rows: String = m.files.iter().map(|f| format!(" {}:{}:{}:{}:{}:{}", f.id, f.slot, f.vstart, f.src, f.ssize, f.vsize)).collect();
         m.note(&format!("medium {} {} 255\nstart {FIRST}{rows}\nrw 1", m.fat.len(), m.area.len()));
         unsafe {
@@ -76,7 +77,9 @@ impl Mixer {
         }
         self.note(&line);
         let (files, n, fat, area) = (self.files.as_mut_ptr(), self.files.len(), self.fat.as_ptr(), self.area.as_mut_ptr());
-        unsafe { vwrite_write(&mut self.w, files, n, lba, shown.as_ptr(), 512, written.as_ptr(), 512, false, fat, self.fat.len(), area, self.area.len()) }
+        unsafe {
+            vwrite_write(&mut self.w, files, n, lba, shown.as_ptr(), 512, written.as_ptr(), 512, false, fat, self.fat.len(), area, self.area.len())
+        }
     }
 
     /// The computer is gone: the session ends, and the files that are handed are told.

@@ -111,7 +111,11 @@ pub fn serve(mut s: TcpStream, mixer: &mut Mixer) -> Result<()> {
             1 => {
                 let mut written = vec![0; len as usize];
                 s.read_exact(&mut written)?;
-                if fits { write(mixer, from, &written) } else { EINVAL }
+                if fits {
+                    write(mixer, from, &written)
+                } else {
+                    EINVAL
+                }
             }
             2 => return Ok(()),
             3 => 0,

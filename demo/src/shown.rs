@@ -34,7 +34,11 @@ pub fn short_name(id: u16) -> [u8; 11] {
 }
 
 fn shown_dir(id: u16) -> u16 {
-    if id >> 10 & 3 == 3 { 0 } else { id >> 10 & 3 }
+    if id >> 10 & 3 == 3 {
+        0
+    } else {
+        id >> 10 & 3
+    }
 }
 
 /// A byte of a file's content: lines of a table.
@@ -83,7 +87,11 @@ impl Drive<'_> {
             _ if own.owner == 2 && self.files[own.row].id & 0x2000 == 0 => {
                 let f = &self.files[own.row];
                 let last = f.vstart as u32 + f.vsize.div_ceil(CB) - 1;
-                if c == last { 0xFFFF } else { c as u16 + 1 }
+                if c == last {
+                    0xFFFF
+                } else {
+                    c as u16 + 1
+                }
             }
             _ => 0,
         }
@@ -140,7 +148,8 @@ impl Drive<'_> {
             }
             return b;
         }
-        let staged = unsafe { vwrite_staged_read(self.w, self.fat.as_ptr(), self.fat.len(), self.area.as_ptr(), self.area.len(), c, s, b.as_mut_ptr(), 512) };
+        let staged =
+            unsafe { vwrite_staged_read(self.w, self.fat.as_ptr(), self.fat.len(), self.area.as_ptr(), self.area.len(), c, s, b.as_mut_ptr(), 512) };
         let own = unsafe { vwrite_owner(self.files.as_ptr(), self.files.len(), self.w.first, c) };
         if !staged.staged && own.owner == 2 && self.files[own.row].id & 0x6000 == 0 {
             let f = &self.files[own.row];

@@ -48,7 +48,11 @@ fn mtools(image: &Path, words: &[&str]) -> Result<()> {
     println!("{}", words.join(" "));
     let image = image.display().to_string();
     let status = Command::new(words[0]).env("MTOOLS_SKIP_CHECK", "1").args(["-i", &image]).args(&words[1..]).status()?;
-    if status.success() { Ok(()) } else { Err(Error::other(format!("{}: {status}", words[0]))) }
+    if status.success() {
+        Ok(())
+    } else {
+        Err(Error::other(format!("{}: {status}", words[0])))
+    }
 }
 
 fn read_image(image: &Path) -> Result<Vec<u8>> {

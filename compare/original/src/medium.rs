@@ -101,4 +101,3 @@ impl msc::BlockDevice for Memory {
         false
     }
 }
-

@@ -23,7 +23,9 @@ impl Both {
         self.equal("the number", if acceptable { 0 } else { 10 }, n);
         if n == 0 {
             self.files = files.to_vec();
-            for (set_table, set_state) in [(original::set_table as fn(&[File], u32), original::set_state as fn(&State)), (numbered::set_table, numbered::set_state)] {
+            for (set_table, set_state) in
+                [(original::set_table as fn(&[File], u32), original::set_state as fn(&State)), (numbered::set_table, numbered::set_state)]
+            {
                 set_table(files, first);
                 set_state(&State::new(first));
             }

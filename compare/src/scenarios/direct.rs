@@ -87,7 +87,10 @@ fn state(r: &mut Rng, first: u32, entries: usize) -> State {
     }
     for k in 0..w.rec.len() {
         if r.one_in(2) {
-            w.rec[k] = Rec { slot: r.range(7, 40) as u16 + 9 * k as u16, e: hosts::slot(b"DM40FW  BIN", 0x20, cluster(r, first), r.pick(&[127, 128, 600, 40_000])) };
+            w.rec[k] = Rec {
+                slot: r.range(7, 40) as u16 + 9 * k as u16,
+                e: hosts::slot(b"DM40FW  BIN", 0x20, cluster(r, first), r.pick(&[127, 128, 600, 40_000])),
+            };
         }
     }
     for i in 0..w.st.len() {

@@ -47,7 +47,11 @@ fn task(r: &mut Rng, both: &Both) -> Vec<Change> {
         }
         6 => {
             let clusters = free_clusters(r, both, 3);
-            clusters.iter().enumerate().flat_map(|(i, &c)| hosts::directory(r, (at as usize + i) % hosts::HOUSEKEEPING.len(), c, (at + 4 * i as u32).min(508))).collect()
+            clusters
+                .iter()
+                .enumerate()
+                .flat_map(|(i, &c)| hosts::directory(r, (at as usize + i) % hosts::HOUSEKEEPING.len(), c, (at + 4 * i as u32).min(508)))
+                .collect()
         }
         7 => fragments(r, both),
         _ => boot_and_flags(r),
@@ -86,7 +90,11 @@ fn fragments(r: &mut Rng, both: &Both) -> Vec<Change> {
     let clusters = free_clusters(r, both, n);
     match r.below(3) {
         0 => clusters.iter().flat_map(|&c| hosts::entries(&[(c, r.pick(&[0xFFFF, 0xFFF8, 2, 65_001, c as u16]))], 1)).collect(),
-        1 => clusters.iter().enumerate().flat_map(|(i, &c)| hosts::root_slots(7 + 9 * i as u32 % 500, &[hosts::slot(b"DM40FW  BIN", 0x20, c as u16, 128)])).collect(),
+        1 => clusters
+            .iter()
+            .enumerate()
+            .flat_map(|(i, &c)| hosts::root_slots(7 + 9 * i as u32 % 500, &[hosts::slot(b"DM40FW  BIN", 0x20, c as u16, 128)]))
+            .collect(),
         _ => clusters.iter().map(|&c| hosts::data(c, r.range(0, 63), &[r.next() as u8; 512])).collect(),
     }
 }

@@ -96,12 +96,31 @@ extern "C" {
     pub fn vwrite_initial(w: *mut State, first: u32);
     #[rustfmt::skip]
     pub fn vwrite_write(
-        w: *mut State, files: *mut File, nfiles: usize, lba: u32, shown: *const u8, nshown: usize, written: *const u8, nwritten: usize, busy: bool,
-        fat: *const u16, nfat: usize, area: *mut u8, narea: usize,
+        w: *mut State,
+        files: *mut File,
+        nfiles: usize,
+        lba: u32,
+        shown: *const u8,
+        nshown: usize,
+        written: *const u8,
+        nwritten: usize,
+        busy: bool,
+        fat: *const u16,
+        nfat: usize,
+        area: *mut u8,
+        narea: usize,
     ) -> u8;
     #[rustfmt::skip]
     pub fn vwrite_staged_read(
-        w: *const State, fat: *const u16, nfat: usize, area: *const u8, narea: usize, c: u32, s: u32, out: *mut u8, nout: usize,
+        w: *const State,
+        fat: *const u16,
+        nfat: usize,
+        area: *const u8,
+        narea: usize,
+        c: u32,
+        s: u32,
+        out: *mut u8,
+        nout: usize,
     ) -> Staged;
     pub fn vwrite_pair(w: *const State, c: u32) -> PairAnswer;
     pub fn vwrite_root_rec(w: *const State, slot: usize) -> RootRecord;
@@ -118,12 +137,27 @@ extern "C" {
     pub fn vwrite_start(w: *mut State, files: *const File, nfiles: usize, first: u32) -> u8;
     #[rustfmt::skip]
     pub fn vwrite_poll(
-        w: *mut State, files: *mut File, nfiles: usize, clock: u64, mounted: bool, fat: *const u16, nfat: usize, area: *const u8, narea: usize,
+        w: *mut State,
+        files: *mut File,
+        nfiles: usize,
+        clock: u64,
+        mounted: bool,
+        fat: *const u16,
+        nfat: usize,
+        area: *const u8,
+        narea: usize,
     ) -> End;
     pub fn vwrite_release(w: *mut State, files: *mut File, nfiles: usize, fat: *const u16, nfat: usize, area: *const u8, narea: usize) -> End;
     #[rustfmt::skip]
     pub fn vwrite_release_all(
-        w: *mut State, files: *mut File, nfiles: usize, reset: bool, fat: *const u16, nfat: usize, area: *const u8, narea: usize,
+        w: *mut State,
+        files: *mut File,
+        nfiles: usize,
+        reset: bool,
+        fat: *const u16,
+        nfat: usize,
+        area: *const u8,
+        narea: usize,
     ) -> End;
     pub fn vdisk_on_bus_reset(w: *mut State, files: *mut File, nfiles: usize, fat: *const u16, nfat: usize, area: *const u8, narea: usize) -> End;
     pub fn vwrite_on_bus_reset(w: *mut State);
@@ -135,7 +169,17 @@ extern "C" {
     pub fn vwrite_named(w: *const State, fat: *const u16, nfat: usize, area: *const u8, narea: usize, start: u16, size: u32) -> Named;
     #[rustfmt::skip]
     pub fn vwrite_after_write(
-        r: Reason, id: u16, slot: u16, start: u16, size: u32, number: u8, lba: u32, shown: *const u8, nshown: usize, written: *const u8, nwritten: usize,
+        r: Reason,
+        id: u16,
+        slot: u16,
+        start: u16,
+        size: u32,
+        number: u8,
+        lba: u32,
+        shown: *const u8,
+        nshown: usize,
+        written: *const u8,
+        nwritten: usize,
     ) -> Reason;
     pub fn vwrite_after_end(r: Reason, ended: u8, id: u16, named: bool) -> Reason;
     pub fn vwrite_after_gone(r: Reason, number: u8, row: usize, j: usize) -> Reason;

@@ -4,17 +4,47 @@ use bindings::{File, Rec, Sector, St};
 /// One call. A sector that is written stands beside the one shown.
 #[derive(Clone, Debug)]
 pub enum Call {
-    Medium { entries: usize, bytes: usize, fill: u8 },
-    Fill { value: u16, from: usize, to: usize },
-    Entries { at: usize, values: Vec<u16> },
-    Data { at: usize, bytes: Vec<u8> },
-    Lend { entries: usize, bytes: usize },
-    Start { first: u32, files: Vec<File> },
+    Medium {
+        entries: usize,
+        bytes: usize,
+        fill: u8,
+    },
+    Fill {
+        value: u16,
+        from: usize,
+        to: usize,
+    },
+    Entries {
+        at: usize,
+        values: Vec<u16>,
+    },
+    Data {
+        at: usize,
+        bytes: Vec<u8>,
+    },
+    Lend {
+        entries: usize,
+        bytes: usize,
+    },
+    Start {
+        first: u32,
+        files: Vec<File>,
+    },
     Rw(bool),
-    Write { lba: u32, busy: bool, shown: Box<Sector>, written: Box<Sector> },
-    Poll { clock: u64, mounted: bool },
+    Write {
+        lba: u32,
+        busy: bool,
+        shown: Box<Sector>,
+        written: Box<Sector>,
+    },
+    Poll {
+        clock: u64,
+        mounted: bool,
+    },
     Release,
-    ReleaseAll { reset: bool },
+    ReleaseAll {
+        reset: bool,
+    },
     BusReset,
     ModeReset,
     SetReadOnly(bool),
@@ -41,7 +71,11 @@ fn num<T: std::str::FromStr>(w: &str, what: &str) -> Result<T, String> {
 fn hex(w: &str) -> Result<Vec<u8>, String> {
     let digit = |d: u8| (d as char).to_digit(16).map(|v| v as u8);
     let pair = |p: &[u8]| Some(digit(p[0])? << 4 | digit(*p.get(1)?)?);
-    w.as_bytes().chunks(2).map(pair).collect::<Option<Vec<u8>>>().ok_or(format!("{:?} isn't bytes in hexadecimal digits", w.chars().take(40).collect::<String>()))
+    w.as_bytes()
+        .chunks(2)
+        .map(pair)
+        .collect::<Option<Vec<u8>>>()
+        .ok_or(format!("{:?} isn't bytes in hexadecimal digits", w.chars().take(40).collect::<String>()))
 }
 
 fn flag(w: &str, what: &str) -> Result<bool, String> {
@@ -111,7 +145,10 @@ fn direct(name: &str, a: &[&str]) -> Result<Option<Call>, String> {
         ("slot", [i, c, sealed, ro, map, blocks @ ..]) => {
             let blk: Vec<u16> = blocks.iter().map(|b| num(b, "block")).collect::<Result<_, _>>()?;
             let blk = blk.try_into().map_err(|_| "a staging slot has eight blocks")?;
-            Direct::Slot(place(i, bindings::NST)?, St { c: num(c, "cluster")?, sealed: flag(sealed, "sealed flag")?, ro: num(ro, "byte")?, map: num(map, "map")?, blk })
+            Direct::Slot(
+                place(i, bindings::NST)?,
+                St { c: num(c, "cluster")?, sealed: flag(sealed, "sealed flag")?, ro: num(ro, "byte")?, map: num(map, "map")?, blk },
+            )
         }
         ("set", [field, v]) => {
             let most = match *field {
@@ -137,12 +174,18 @@ pub fn parse(line: &str) -> Result<Option<Call>, String> {
     let name = words.next().unwrap_or("");
     let a: Vec<&str> = words.collect();
     Ok(Some(match (name, &a[..]) {
-        ("medium", [n, len, fill]) => Call::Medium { entries: num(n, "number of entries")?, bytes: num(len, "number of bytes")?, fill: num(fill, "byte")? },
+        ("medium", [n, len, fill]) => {
+            Call::Medium { entries: num(n, "number of entries")?, bytes: num(len, "number of bytes")?, fill: num(fill, "byte")? }
+        }
         ("mfill", [v, from, to]) => fill(v, from, to)?,
-        ("mfat", [at, values @ ..]) => Call::Entries { at: num(at, "entry")?, values: values.iter().map(|v| num(v, "value")).collect::<Result<_, _>>()? },
+        ("mfat", [at, values @ ..]) => {
+            Call::Entries { at: num(at, "entry")?, values: values.iter().map(|v| num(v, "value")).collect::<Result<_, _>>()? }
+        }
         ("mdata", [at, bytes]) => Call::Data { at: num(at, "offset")?, bytes: hex(bytes)? },
         ("lend", [n, len]) => Call::Lend { entries: num(n, "number of entries")?, bytes: num(len, "number of bytes")? },
-        ("start", [first, rows @ ..]) => Call::Start { first: num(first, "first session cluster")?, files: rows.iter().map(|w| row(w)).collect::<Result<_, _>>()? },
+        ("start", [first, rows @ ..]) => {
+            Call::Start { first: num(first, "first session cluster")?, files: rows.iter().map(|w| row(w)).collect::<Result<_, _>>()? }
+        }
         ("rw", [on]) => Call::Rw(flag(on, "mode")?),
         ("write", [p, busy, mounted, shown, written]) => write(p, busy, mounted, shown, written)?,
         ("poll", [clock, busy, mounted]) => poll(clock, busy, mounted)?,

@@ -23,7 +23,12 @@ impl Why {
     /// The reason as the library gives it after the call of this line.
     fn becomes(&mut self, reason: Reason, line: usize) {
         let was = std::mem::replace(&mut self.reason, reason);
-        let parts = [(was.turned, reason.turned, &mut self.turned), (was.zeroed, reason.zeroed, &mut self.zeroed), (was.named, reason.named, &mut self.named), (was.gone, reason.gone, &mut self.gone)];
+        let parts = [
+            (was.turned, reason.turned, &mut self.turned),
+            (was.zeroed, reason.zeroed, &mut self.zeroed),
+            (was.named, reason.named, &mut self.named),
+            (was.gone, reason.gone, &mut self.gone),
+        ];
         for (before, after, at) in parts {
             if after && !before {
                 *at = line;
@@ -57,7 +62,8 @@ impl Reasons {
     pub fn written(&mut self, files: &[File], call: &Call, number: u8, line: usize) {
         let Call::Write { lba, shown, written, .. } = call else { return };
         for (why, f) in self.rows.iter_mut().zip(files) {
-            let reason = unsafe { vwrite_after_write(why.reason, f.id, f.slot, f.vstart, f.vsize, number, *lba, shown.as_ptr(), 512, written.as_ptr(), 512) };
+            let reason =
+                unsafe { vwrite_after_write(why.reason, f.id, f.slot, f.vstart, f.vsize, number, *lba, shown.as_ptr(), 512, written.as_ptr(), 512) };
             why.becomes(reason, line);
         }
     }
@@ -92,7 +98,12 @@ impl Reasons {
         if !r.turned && !r.zeroed && !r.named {
             return format!("not handed: nothing gave it up {since}");
         }
-        let parts = [(r.turned, "turned", why.turned), (r.zeroed, "its entries zeroed", why.zeroed), (r.named, "named by a staged sector at the release", why.named), (r.gone, "reported gone", why.gone)];
+        let parts = [
+            (r.turned, "turned", why.turned),
+            (r.zeroed, "its entries zeroed", why.zeroed),
+            (r.named, "named by a staged sector at the release", why.named),
+            (r.gone, "reported gone", why.gone),
+        ];
         let mut told: Vec<String> = parts.iter().filter(|p| p.0).map(|(_, what, at)| format!("{what} in line {at}")).collect();
         if !handed && !r.turned {
             told.push("but not turned".to_string());

@@ -54,7 +54,8 @@ impl Session {
     }
 
     fn ends(&mut self, call: &Call) -> End {
-        let (w, files, n, fat, area, lent) = (&mut self.w, self.files.as_mut_ptr(), self.files.len(), self.fat.as_ptr(), self.area.as_ptr(), self.lent);
+        let (w, files, n, fat, area, lent) =
+            (&mut self.w, self.files.as_mut_ptr(), self.files.len(), self.fat.as_ptr(), self.area.as_ptr(), self.lent);
         unsafe {
             match *call {
                 Call::Poll { clock, mounted } => vwrite_poll(w, files, n, clock, mounted, fat, lent.0, area, lent.1),
@@ -89,8 +90,12 @@ impl Session {
                 (self.fat, self.area, self.lent) = (vec![0; entries], vec![fill; bytes], (entries, bytes));
             }
             Call::Fill { value, from, to } => self.fat.get_mut(from..to).ok_or(format!("the medium has {entries} entries"))?.fill(value),
-            Call::Entries { at, values } => self.fat.get_mut(at..at + values.len()).ok_or(format!("the medium has {entries} entries"))?.copy_from_slice(&values),
-            Call::Data { at, bytes: new } => self.area.get_mut(at..at + new.len()).ok_or(format!("the medium has {bytes} bytes"))?.copy_from_slice(&new),
+            Call::Entries { at, values } => {
+                self.fat.get_mut(at..at + values.len()).ok_or(format!("the medium has {entries} entries"))?.copy_from_slice(&values)
+            }
+            Call::Data { at, bytes: new } => {
+                self.area.get_mut(at..at + new.len()).ok_or(format!("the medium has {bytes} bytes"))?.copy_from_slice(&new)
+            }
             Call::Lend { entries: n, bytes: len } => {
                 if n > entries || len > bytes {
                     return Err(format!("the medium has {entries} entries and {bytes} bytes"));

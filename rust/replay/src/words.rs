@@ -100,7 +100,11 @@ fn changed_slots(g: &Sector, d: &Sector) -> Vec<usize> {
 fn some(list: Vec<String>) -> String {
     let more = list.len().saturating_sub(4);
     let few = list.into_iter().take(4).collect::<Vec<_>>().join(", ");
-    if more == 0 { few } else { format!("{few} and {more} more") }
+    if more == 0 {
+        few
+    } else {
+        format!("{few} and {more} more")
+    }
 }
 
 /// What the sector at a place holds that the drive doesn't show.
@@ -112,7 +116,11 @@ fn content(b: &Before, number: u8, lba: u32, g: &Sector, d: &Sector) -> String {
             let s = (lba - FAT_START) % FAT_SECS;
             let list = changed_entries(s, g, d);
             let all = || some(list.iter().map(|&(c, v)| entry(b, c, v)).collect());
-            if list.is_empty() { format!("FAT sector {s}") } else { refused_entry(b, number, &list, d).unwrap_or_else(all) }
+            if list.is_empty() {
+                format!("FAT sector {s}")
+            } else {
+                refused_entry(b, number, &list, d).unwrap_or_else(all)
+            }
         }
         ROOT_START..=540 => match g == d {
             true => format!("root sector {}", lba - ROOT_START),
@@ -163,7 +171,10 @@ pub fn told(call: &Call, answer: &Answer, before: Option<&Before>, after: &Sessi
             (0, _) => "the release is put off: an update isn't decided".to_string(),
             (n, _) => format!("{n}, {}", REFUSALS[n as usize]),
         },
-        (_, Answer::Handed(rows)) => format!("handed: {}", if rows.is_empty() { "none".to_string() } else { some(rows.iter().map(|&j| file_name(after.files[j].id)).collect()) }),
+        (_, Answer::Handed(rows)) => format!(
+            "handed: {}",
+            if rows.is_empty() { "none".to_string() } else { some(rows.iter().map(|&j| file_name(after.files[j].id)).collect()) }
+        ),
         _ => return None,
     })
 }
