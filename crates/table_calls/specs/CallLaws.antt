@@ -5,10 +5,10 @@ use mathlib.Core.List.{List, [], _∷_, _++_, map}
 use mathlib.Core.Path.{_≡_, refl, sym, ap, _∙_, subst}
 use lib.Dec.{eqb, ltb}
 use lib.ListN.{length, take, length-map}
-use borrow.Author.Tests.{lt-ltb, le-ltb, ltb-true, ltb-false, lt-leb}
+use borrow.Author.Tests.{eq-eqb, lt-ltb, le-ltb, ltb-true, ltb-false, lt-leb}
 use Rattle.loops.specs.Loops.{pick}
 use Rattle.loops.specs.Choices.{pick-by}
-use Rattle.file_table.specs.Table.{maxFiles}
+use Rattle.file_table.specs.Table.{maxFiles, tableOf, wholeColumns}
 use Rattle.file_table.specs.declared.VF.{VF}
 use Rattle.files.specs.Files.{idOf, dirSlotOf, startOf, sizeOf, rowsTaken, over, columnsOf, withIds}
 use Rattle.files.specs.FilesLaws.{column-of, same-ids, no-ids}
@@ -17,6 +17,9 @@ use Rattle.state.specs.declared.w.W.{W}
 use Rattle.judge.specs.Classify.{SectorWrite, sectorWrite}
 use Rattle.write.specs.Write.{Written, write, wholeSectors, tableFits}
 use Rattle.write.specs.WriteLaws.{not-whole, not-fit}
+use Rattle.write.specs.EarlyLaws.{earlyOf, tallied, tallyIn, Settles, settled-early}
+use Rattle.write.specs.declared.early.Early.{Early}
+use Rattle.write.specs.declared.early.Tally.{Tally}
 use Rattle.table_calls.specs.Calls.{filesWrite, tooMany, columnsWrite, columnsWritten}
 
 take-front : (xs ys : List ℕ) → take (length xs) (xs ++ ys) ≡ xs
@@ -78,3 +81,17 @@ module _ (lba : ℕ) (shown written : List ℕ) (busy : Bool) (fat area : List �
       × (take (rowsTaken (length files)) ids ≡ columnsWritten lba shown written busy fat area (columnsOf files) w .ids) × (after ≡ columnsWritten lba shown written busy fat area (columnsOf files) w .area)
       → (m ≡ write x w .number) × (v ≡ write x w .w) × (withIds files (take (rowsTaken (length files)) ids) ≡ withIds files (write x w .ids)) × (after ≡ write x w .area)
   files-by m v ids after e = (e .0 ∙ by-columns .0, e .1 ∙ by-columns .1, ap (withIds files) (e .2) ∙ by-columns .2, e .3 ∙ by-columns .3)
+
+  -- what is settled early leaves the files as they are
+  whole-columns : wholeColumns (tableOf (map idOf files) (map dirSlotOf files) (map startOf files) (map sizeOf files) (w .first)) ≡ true
+  unfolding wholeColumns
+  whole-columns =
+      let n = length-map files idOf in
+      rw (eq-eqb _ _ (length-map files dirSlotOf ∙ sym n), eq-eqb _ _ (length-map files startOf ∙ sym n), eq-eqb _ _ (length-map files sizeOf ∙ sym n))
+
+  pub early-by : (e : Early) (t : Tally) → e ≡ earlyOf (w .rw) (length files) lba shown written → e .settled ≡ true → t ≡ tallyIn w lba (e .no)
+      → (e .no ≡ write x w .number) × (tallied w t ≡ write x w .w) × (files ≡ withIds files (write x w .ids)) × (area ≡ write x w .area)
+  early-by e t a s b =
+      let f = a ∙ ap (λ (n : ℕ). earlyOf (w .rw) n lba shown written) (sym (length-map files idOf)) in
+      let l = subst (Settles x w) (sym f) (settled-early x w whole-columns) s in
+      (l .answer, ap (tallied w) b ∙ l .state, sym (same-ids files) ∙ ap (withIds files) (l .table), l .medium)

@@ -26,6 +26,8 @@ use state_calls::staged_read;
 use state_calls::strict_name;
 use table_calls::write_columns;
 use vdisk::drive::nclus;
+use write::early::early_of;
+use write::early::tally_of;
 ghost use mathlib.Core.Path.{_≡_};
 ghost use Rattle.vdisk.specs.Drive.{clustersOf, dirKindOf};
 ghost use Rattle.records.specs.Records.{rootRec};
@@ -40,9 +42,8 @@ ghost use Rattle.files.specs.Files.{withIds};
 ghost use Rattle.table_calls.specs.Calls.{filesWritten};
 ghost use Rattle.state_calls.specs.Answers.{pairAnswer, dirAnswer, filesOwner};
 
-// A written sector is judged: the refusal number, 0 where it is taken.
-#[no_mangle]
-pub extern "C" fn vwrite_write(
+// A sector that needs the table or the rest of the state.
+fn judged(
     w: &mut W,
     files: &mut [VF],
     lba: u32,
@@ -62,6 +63,34 @@ pub extern "C" fn vwrite_write(
     set_ids(files, o.ids);
     *w = o.w;
     o.no
+}
+
+// A written sector is judged: the refusal number, 0 where it is taken.
+#[no_mangle]
+pub extern "C" fn vwrite_write(
+    w: &mut W,
+    files: &mut [VF],
+    lba: u32,
+    shown: &[u8],
+    written: &[u8],
+    busy: bool,
+    fat: &[u16],
+    area: &mut [u8],
+) -> u8
+    ensures { λ r. ⌜ (r ≡ filesWritten lba (now (shown .entry)) (now (written .entry)) busy (now (fat .entry)) (now (area .entry)) (now (files .entry)) (now (w .entry)) .number)
+        × (now (w .exit) ≡ filesWritten lba (now (shown .entry)) (now (written .entry)) busy (now (fat .entry)) (now (area .entry)) (now (files .entry)) (now (w .entry)) .w)
+        × (now (files .exit) ≡ withIds (now (files .entry)) (filesWritten lba (now (shown .entry)) (now (written .entry)) busy (now (fat .entry)) (now (area .entry)) (now (files .entry)) (now (w .entry)) .ids))
+        × (now (area .exit) ≡ filesWritten lba (now (shown .entry)) (now (written .entry)) busy (now (fat .entry)) (now (area .entry)) (now (files .entry)) (now (w .entry)) .area) ⌝ }
+{
+    let e = early_of(w.rw, files.len(), lba, shown, written);
+    if e.settled {
+        let t = tally_of(e.no, lba, w.now_ms, w.last, w.err, w.n);
+        w.last = t.last;
+        w.err = t.err;
+        w.n = t.n;
+        return e.no;
+    }
+    judged(w, files, lba, shown, written, busy, fat, area)
 }
 
 // A sector of a staged cluster into `out`, zeros where the host wrote none.

@@ -1,4 +1,5 @@
 // `write`: a written sector judged, and what it leaves.
+pub mod early;
 pub mod lent;
 pub mod settle;
 

@@ -13,7 +13,7 @@ const E_REFUSED: u8 = 1;
 
 const E_BUSY: u8 = 2;
 
-fn error_of(n: u8) -> u8
+pub fn error_of(n: u8) -> u8
     ensures { λ r. ⌜ r ≡ errorOf n ⌝ }
 {
     if n == 2 {
