@@ -1,10 +1,12 @@
 // The calls that a firmware links. Each takes the state or the table that it is lent apart for a proved function over values,
 // and stores what that gives back.
+mod judged;
+
+use crate::judged::judged;
 use body::BodyCheck;
 use chains::Chain;
 use file_table::VF;
 use files::load;
-use files::set_ids;
 use medium::reads::StagedRead;
 use records::RootRec;
 use root_slots::Strict;
@@ -24,7 +26,6 @@ use state_calls::pair;
 use state_calls::root_rec;
 use state_calls::staged_read;
 use state_calls::strict_name;
-use table_calls::write_columns;
 use vdisk::drive::nclus;
 use write::early::early_of;
 use write::early::tally_of;
@@ -41,29 +42,6 @@ ghost use Rattle.body.specs.Body.{bodyOf};
 ghost use Rattle.files.specs.Files.{withIds};
 ghost use Rattle.table_calls.specs.Calls.{filesWritten};
 ghost use Rattle.state_calls.specs.Answers.{pairAnswer, dirAnswer, filesOwner};
-
-// A sector that needs the table or the rest of the state.
-fn judged(
-    w: &mut W,
-    files: &mut [VF],
-    lba: u32,
-    shown: &[u8],
-    written: &[u8],
-    busy: bool,
-    fat: &[u16],
-    area: &mut [u8],
-) -> u8
-    ensures { λ r. ⌜ (r ≡ filesWritten lba (now (shown .entry)) (now (written .entry)) busy (now (fat .entry)) (now (area .entry)) (now (files .entry)) (now (w .entry)) .number)
-        × (now (w .exit) ≡ filesWritten lba (now (shown .entry)) (now (written .entry)) busy (now (fat .entry)) (now (area .entry)) (now (files .entry)) (now (w .entry)) .w)
-        × (now (files .exit) ≡ withIds (now (files .entry)) (filesWritten lba (now (shown .entry)) (now (written .entry)) busy (now (fat .entry)) (now (area .entry)) (now (files .entry)) (now (w .entry)) .ids))
-        × (now (area .exit) ≡ filesWritten lba (now (shown .entry)) (now (written .entry)) busy (now (fat .entry)) (now (area .entry)) (now (files .entry)) (now (w .entry)) .area) ⌝ }
-{
-    let c = load(files);
-    let o = write_columns(*w, c, lba, shown, written, busy, fat, area);
-    set_ids(files, o.ids);
-    *w = o.w;
-    o.no
-}
 
 // A written sector is judged: the refusal number, 0 where it is taken.
 #[no_mangle]

@@ -1,4 +1,4 @@
--- `vwrite::judged` meets its contract: a walk of its MIR, by hand. The state and the table are opened; the table is lent to `load` as a `&[VF]` and to `set_ids` as a `&mut [VF]`; and the state
+-- `vwrite::judged::judged` meets its contract: a walk of its MIR, by hand. The state and the table are opened; the table is lent to `load` as a `&[VF]` and to `set_ids` as a `&mut [VF]`; and the state
 -- is closed at what the covered function gave.
 use Rattle.files.proofs.Walk.{_≡_, refl, ap, subst, _∙_, ℕ, _<_, _^_, _+_, _*_, _-_, [], _∷_, List, URA, fullShare, named, w8, w16, w32, tyInt, tyBool, Val, vint, vptr, SProp, ent, id⊢, emp, via, fst∗, GName, Lft, Share, ftrue, fat as fcell, flft, fobs, fbor, Memory, Routine, Heap, Calls, Loops, WpFn, Tables, Atoms, Fun}
 use Rattle.files.proofs.Walk.{givenOf, tables, tablesOf, Given, ‵, raw, ⋆, _⊛_, _$_, _∵_, !, qed, by, move, drop, use1, split, join, rewrite, fsplit, fsplit3, fjoin, fjoin3, feqI, feqL, suffices, frame, done}
@@ -46,11 +46,11 @@ use Rattle.table_calls.proofs.write_columns.Met as g₂-thm
 use Rattle.files.proofs.set_ids.Symbol as g₃-def
 use Rattle.files.proofs.set_ids.Symbol.{name as #g₃}
 use Rattle.files.proofs.set_ids.Met as g₃-thm
-use Rattle.vwrite.proofs.judged.Key.{name as #f}
-use Rattle.vwrite.proofs.judged as f
-use Rattle.vwrite.proofs.judged.Statement as stated
-use Rattle.vwrite.proofs.judged.Code as code
-use Rattle.vwrite.proofs.judged.Code.Mir.{t-1}
+use Rattle.vwrite.proofs.judged.judged.Key.{name as #f}
+use Rattle.vwrite.proofs.judged.judged as f
+use Rattle.vwrite.proofs.judged.judged.Statement as stated
+use Rattle.vwrite.proofs.judged.judged.Code as code
+use Rattle.vwrite.proofs.judged.judged.Code.Mir.{t-1}
 
 abbrev stayed : Stays (f.ended .signature .params) (f.ended .kept)
 stayed = (stay-ref (0 ∷ []) tt (plain (λ _. T.the-row)), (stay-slice (1 ∷ []) tt (plain (λ _. F.the-row)), (stay-none (λ _. u32) yes, (stay-none-slice (2 ∷ []) tt (plain (λ _. u8)) yes, (stay-none-slice (3 ∷ []) tt (plain (λ _. u8)) yes, (stay-none (λ _. bool) yes, (stay-none-slice (4 ∷ []) tt (plain (λ _. u16)) yes, (gave-slice (5 ∷ []) tt (plain (λ _. u8)), tt))))))))
