@@ -25,7 +25,7 @@ use Rattle.files.proofs.Rows.{let-go}
 use Rattle.files.proofs.Mixed.{holds}
 use Rattle.files.proofs.Locals.{alloc-all}
 use Rattle.vwrite.proofs.Session.{val}
-use Rattle.vwrite.proofs.Fields.{stats-val, early-val, early-is, tally-is, number-early, now-fits, last-fits, err-fits, stats-of, tally-last, tally-err, tally-stats, last-stored, err-stored, stats-stored, tallied-holds, early-typed, tally-typed, stats-typed, stats-makes, look-field, store-field}
+use Rattle.vwrite.proofs.Fields.{stats-val, early-val, early-is, tally-is, number-early, now-fits, last-fits, err-fits, stats-of, tally-last, tally-err, tally-stats, tallied-holds, early-typed, tally-typed, stats-typed, stats-makes, rw-at, last-at, now-at, err-at, stats-at, look-rw, look-last, look-now, look-err, look-stats, store-last, store-err, store-stats}
 use Rattle.files.specs.Files.{withIds}
 use Rattle.table_calls.specs.Calls.{filesWritten}
 use Rattle.table_calls.specs.CallLaws.{early-by}
@@ -208,18 +208,18 @@ module _ {M : Type 1} (𝓤 : URA M) (H : Heap 𝓤) (A : Atoms 𝓤) (W : Given
           first ! $ branches ! (load ! (from ! (stop !)) (look ! (12 + p 11) refl))
           -- it is: three fields of the state are stored
           (λ on.
-          assigns ! (of-opd ! (load ! (from ! (hop ! (look ! (12 + p 1) refl) (fld ! refl (stop !)))) (look-field ! 1 10 (tyInt w64) h refl refl))) (from ! (stop !)) (init ! (12 + p 13) refl (tt, record { fits = now-fits h _ was })) $
-          assigns ! (of-opd ! (load ! (from ! (hop ! (look ! (12 + p 1) refl) (fld ! refl (stop !)))) (look-field ! 1 9 (tyInt w64) h refl refl))) (from ! (stop !)) (init ! (12 + p 14) refl (tt, record { fits = last-fits h _ was })) $
-          assigns ! (of-opd ! (load ! (from ! (hop ! (look ! (12 + p 1) refl) (fld ! refl (stop !)))) (look-field ! 1 14 (tyInt w8) h refl refl))) (from ! (stop !)) (init ! (12 + p 15) refl (tt, record { fits = err-fits h _ was })) $
-          assigns ! (of-opd ! (load ! (from ! (hop ! (look ! (12 + p 1) refl) (fld ! refl (stop !)))) (look-field ! 1 22 (N′.mir) h refl refl))) (from ! (stop !)) (init ! (12 + p 16) refl (stats-typed 𝓤 H A W (h .n) _ (stats-of h _ was))) $
+          assigns ! (of-opd ! (load ! (from ! (hop ! (look ! (12 + p 1) refl) (fld ! now-at (stop !)))) (look-now ! 1 h refl))) (from ! (stop !)) (init ! (12 + p 13) refl (tt, record { fits = now-fits h _ was })) $
+          assigns ! (of-opd ! (load ! (from ! (hop ! (look ! (12 + p 1) refl) (fld ! last-at (stop !)))) (look-last ! 1 h refl))) (from ! (stop !)) (init ! (12 + p 14) refl (tt, record { fits = last-fits h _ was })) $
+          assigns ! (of-opd ! (load ! (from ! (hop ! (look ! (12 + p 1) refl) (fld ! err-at (stop !)))) (look-err ! 1 h refl))) (from ! (stop !)) (init ! (12 + p 15) refl (tt, record { fits = err-fits h _ was })) $
+          assigns ! (of-opd ! (load ! (from ! (hop ! (look ! (12 + p 1) refl) (fld ! stats-at (stop !)))) (look-stats ! 1 h refl))) (from ! (stop !)) (init ! (12 + p 16) refl (stats-typed 𝓤 H A W (h .n) _ (stats-of h _ was))) $
           use0 W (raw (TallyOf 𝓤 H A at-mem run .pre (to-tally e))) (goes-tally e (fits) was) $
           calls-at ! fm (TallyOf 𝓤 H A at-mem run) k₂ (to-tally e) (and-then ! (load ! (from ! (fld ! refl (stop !))) (look-in ! (13 + p 9) (sub ! 1 refl (whole !)))) (and-then ! (load ! (from ! (stop !)) (look ! (13 + p 3) refl)) (and-then ! (load ! (from ! (stop !)) (look ! (13 + p 13) refl)) (and-then ! (load ! (from ! (stop !)) (look ! (13 + p 14) refl)) (and-then ! (load ! (from ! (stop !)) (look ! (13 + p 15) refl)) (and-then ! (load ! (from ! (stop !)) (look ! (13 + p 16) refl)) (no-more !))))))) (λ v₂.
           answered ! tt g₂.ended (g₂.clauses 𝓤 H A at-mem run) tt tt tt (tally-args e) (tally-at e) tt v₂ (‵ ftrue) (id⊢ 𝓤 _) (λ t ws₂.
           heard ! (t ≡ tallyIn h lba (e .no)) (λ e₂. peeks ! Y.the-row (Is Y.the-row) (shows 𝓤 H A Y.the-row) t (v₂ ∷ []) (λ is₂. drop ! $ drop ! $ drop ! $
           land ! (from ! (stop !)) (init ! (12 + p 10) refl (tally-typed 𝓤 H A W t v₂ is₂)) $ rewrite ! (12 + p 10) (λ (u : Val). ‵ (fcell fullShare Y′.mir l10 0 u)) (tally-is t v₂ is₂) refl $
-          assigns ! (of-opd ! (load ! (from ! (fld ! refl (stop !))) (look-in ! (12 + p 10) (sub ! 0 refl (whole !))))) (from ! (hop ! (look ! (12 + p 1) refl) (fld ! refl (stop !)))) (store-field ! 1 9 (tyInt w64) (h) (withLast h (t .last)) refl (last-stored h (t .last)) refl (tt, record { fits = tally-last t _ is₂ })) $
-          assigns ! (of-opd ! (load ! (from ! (fld ! refl (stop !))) (look-in ! (12 + p 10) (sub ! 1 refl (whole !))))) (from ! (hop ! (look ! (12 + p 1) refl) (fld ! refl (stop !)))) (store-field ! 1 14 (tyInt w8) (withLast h (t .last)) (withErr (withLast h (t .last)) (t .err)) refl (err-stored (withLast h (t .last)) (t .err)) refl (tt, record { fits = tally-err t _ is₂ })) $
-          assigns ! (of-opd ! (load ! (from ! (fld ! refl (stop !))) (look-in ! (12 + p 10) (sub ! 2 refl (whole !))))) (from ! (hop ! (look ! (12 + p 1) refl) (fld ! refl (stop !)))) (store-field ! 1 22 (N′.mir) (withErr (withLast h (t .last)) (t .err)) (tallied h t) refl (stats-stored (withErr (withLast h (t .last)) (t .err)) (t .n)) refl (stats-typed 𝓤 H A W (t .n) _ (tally-stats t _ is₂))) $
+          assigns ! (of-opd ! (load ! (from ! (fld ! refl (stop !))) (look-in ! (12 + p 10) (sub ! 0 refl (whole !))))) (from ! (hop ! (look ! (12 + p 1) refl) (fld ! last-at (stop !)))) (store-last ! 1 h (t .last) refl (tally-last t _ is₂)) $
+          assigns ! (of-opd ! (load ! (from ! (fld ! refl (stop !))) (look-in ! (12 + p 10) (sub ! 1 refl (whole !))))) (from ! (hop ! (look ! (12 + p 1) refl) (fld ! err-at (stop !)))) (store-err ! 1 (withLast h (t .last)) (t .err) refl (tally-err t _ is₂)) $
+          assigns ! (of-opd ! (load ! (from ! (fld ! refl (stop !))) (look-in ! (12 + p 10) (sub ! 2 refl (whole !))))) (from ! (hop ! (look ! (12 + p 1) refl) (fld ! stats-at (stop !)))) (store-stats ! 1 (withErr (withLast h (t .last)) (t .err)) (t .n) refl (tally-stats t _ is₂)) $
           assigns ! (of-opd ! (load ! (from ! (fld ! refl (stop !))) (look-in ! (12 + p 9) (sub ! 1 refl (whole !))))) (from ! (stop !)) (init ! (12 + p 0) refl (tt, record { fits = fits })) $
           move ! (1 ∷ 2 ∷ 3 ∷ 4 ∷ []) $ closed ! tt T.the-type T′.the-laws T′.the-plain (tallied h t) (tallied-holds h _ t _ was is₂) b o $
           -- [obs; bor; κ0; κ2 and κ3; κ1; files; κ4 and κ5; fat; area; shown; written; the locals]
@@ -240,7 +240,7 @@ module _ {M : Type 1} (𝓤 : URA M) (H : Heap 𝓤) (A : Atoms 𝓤) (W : Given
           move ! (11 ∷ 12 ∷ 13 ∷ 14 ∷ 7 ∷ 10 ∷ 5 ∷ 9 ∷ 8 ∷ 2 ∷ 0 ∷ 6 ∷ 4 ∷ 3 ∷ 1 ∷ []) $
           -- [cell; obor; obs; auth; κ1; files; κ4 and κ5; fat; area; shown; written; κ2; κ3; shown; written; the locals]
           -- is it settled early
-          assigns ! (of-opd ! (load ! (from ! (hop ! (look ! (15 + p 1) refl) (fld ! refl (stop !)))) (look-field ! 0 0 (tyBool) h refl refl))) (from ! (stop !)) (init ! (15 + p 11) refl (tt, tt)) $
+          assigns ! (of-opd ! (load ! (from ! (hop ! (look ! (15 + p 1) refl) (fld ! rw-at (stop !)))) (look-rw ! 0 h refl))) (from ! (stop !)) (init ! (15 + p 11) refl (tt, tt)) $
           assigns ! (of-opd ! (load ! (from ! (fld ! refl (stop !))) (look-in ! (15 + p 2) (sub ! 1 refl (whole !))))) (from ! (stop !)) (init ! (15 + p 12) refl (tt, record { fits = files-room .0 })) $
           move ! (11 ∷ 12 ∷ 13 ∷ 14 ∷ []) $ nothing ! $ move ! (2 ∷ 0 ∷ []) $ join ! $ move ! (1 ∷ 0 ∷ []) $ join ! $ use3 W (raw (EarlyOf 𝓤 H A at-mem run .pre to-early)) goes-early $
           calls-at ! fm (EarlyOf 𝓤 H A at-mem run) k₁ to-early (and-then ! (load ! (from ! (stop !)) (look ! (12 + p 11) refl)) (and-then ! (load ! (from ! (stop !)) (look ! (12 + p 12) refl)) (and-then ! (load ! (from ! (stop !)) (look ! (12 + p 3) refl)) (and-then ! (load ! (from ! (stop !)) (look ! (12 + p 4) refl)) (and-then ! (load ! (from ! (stop !)) (look ! (12 + p 5) refl)) (no-more !)))))) (λ v₁.
