@@ -52,7 +52,7 @@ pub housekeeping-some : (name : List ℕ) → isHousekeeping name ≡ some (λ k
 unfolding isHousekeeping
 housekeeping-some name = ap (λ (ps : List (List ℕ)). somePrefix ps name) (sym cut-prefixes) ∙ some-listed cutAt name 10 0
 
-row-length : length prefixBytes ≡ 126
+pub row-length : length prefixBytes ≡ 126
 unfolding prefixBytes
 row-length = refl
 

@@ -12,8 +12,9 @@ const PREFIXES: [u8; 126] =
 const STARTS: [usize; 11] = [0, 6, 8, 17, 27, 42, 57, 78, 89, 114, 126];
 
 // Is the prefix that stands from `at` to `end` one of the name.
-fn is_prefix(at: usize, end: usize, name: &[u8]) -> bool
-    requires { ⌜ (at ≤ end) × (end ≤ 126) ⌝ }
+fn is_prefix(bytes: &[u8], at: usize, end: usize, name: &[u8]) -> bool
+    requires row { ⌜ now bytes ≡ prefixBytes ⌝ }
+    requires part { ⌜ (at ≤ end) × (end ≤ 126) ⌝ }
     ensures { λ r. ⌜ r ≡ isPrefix (take (end - at) (drop at prefixBytes)) (now (name .entry)) ⌝ }
 {
     if name.len() < end - at {
@@ -21,7 +22,7 @@ fn is_prefix(at: usize, end: usize, name: &[u8]) -> bool
     }
     let mut i = at;
     while i < end {
-        if PREFIXES[i] != name[i - at] {
+        if bytes[i] != name[i - at] {
             return false;
         }
         i += 1;
@@ -29,12 +30,15 @@ fn is_prefix(at: usize, end: usize, name: &[u8]) -> bool
     true
 }
 
+// The row and the starts are copied once: read by name in the loop, they would be made anew for each byte.
 pub fn housekeeping(name: &[u8]) -> bool
     ensures { λ r. ⌜ r ≡ isHousekeeping (now (name .entry)) ⌝ }
 {
+    let bytes = PREFIXES;
+    let starts = STARTS;
     let mut i = 0;
     while i < 10 {
-        if is_prefix(STARTS[i], STARTS[i + 1], name) {
+        if is_prefix(&bytes, starts[i], starts[i + 1], name) {
             return true;
         }
         i += 1;

@@ -24,7 +24,7 @@ fn byte_passes(g: &[u8], d: &[u8], i: usize) -> bool
     g[i] == d[i]
 }
 
-fn boot_passes(g: &[u8], d: &[u8]) -> bool
+pub fn boot_passes(g: &[u8], d: &[u8]) -> bool
     requires { ⌜ (length (now g) ≡ 512) × (length (now d) ≡ 512) ⌝ }
     ensures { λ r. ⌜ r ≡ bootPasses (now (g .entry)) (now (d .entry)) ⌝ }
 {

@@ -15,14 +15,15 @@ use state::w::Pair;
 use state::w::W;
 ghost use mathlib.Core.Path.{_≡_};
 ghost use Prim.Native.Nat.{ℕ, _+_, _*_, _<_};
-ghost use mathlib.Core.Bool.{not, _&&_};
+ghost use mathlib.Core.Bool.{true, not, _&&_};
 ghost use lib.Dec.{leb};
 ghost use lib.ListN.{length};
 ghost use Rattle.loops.specs.Loops.{some, fold};
 ghost use Rattle.slots.specs.Slots.{sameSlot};
 ghost use Rattle.clusters.specs.Clusters.{isNothing};
 ghost use Rattle.records.specs.Records.{recIdx};
-ghost use Rattle.root_sectors.specs.Root.{rootWrite, startFits, slotNumber, rootNumber, placeOf, keepSlot, rootState, rootChanged};
+ghost use Rattle.root_sectors.specs.Root.{rootWrite, startFits, slotNumber, rootNumber, placeOf, rootState, rootChanged};
+ghost use Rattle.root_sectors.specs.Records.{keptIn, keepRec, rootRecords};
 ghost use Rattle.root_sectors.specs.Lent.{Lent};
 
 // Is the start in slot `i` 0 or a host cluster.
@@ -125,15 +126,19 @@ fn root_number(
     let mut need = 0;
     let mut i = 0;
     while i < 16 {
-        let no = slot_number(ids, starts, sizes, sorted, first, pair, rec, s, g, d, i);
-        if no != 0 {
-            return no;
-        }
-        if needs_rec(rec, s, g, d, i) {
-            need += 1;
+        if same_slot(g, d, i as usize * 32) {
             i += 1;
         } else {
-            i += 1;
+            let no = slot_number(ids, starts, sizes, sorted, first, pair, rec, s, g, d, i);
+            if no != 0 {
+                return no;
+            }
+            if needs_rec(rec, s, g, d, i) {
+                need += 1;
+                i += 1;
+            } else {
+                i += 1;
+            }
         }
     }
     if records::free_recs(rec) < need {
@@ -152,62 +157,98 @@ fn place_of(rec: [Rec; NREC], idx: usize) -> Found
     }
 }
 
+// What the host slots of a sector leave: whether one changed, and the records then.
+struct Kept {
+    any: bool,
+    rec: [Rec; NREC],
+}
+
 // Slot `i` as written, kept in its record.
-fn keep_at(mut w: W, s: u32, g: &[u8], d: &[u8], i: u32) -> W
-    requires { ⌜ (s < 32) × (length (now g) ≡ 512) × (length (now d) ≡ 512) × (i < 16) ⌝ }
-    ensures { λ r. ⌜ r ≡ keepSlot s (now (g .entry)) (now (d .entry)) i w ⌝ }
+fn keep_at(mut kept: Kept, s: u32, d: &[u8], i: u32) -> Kept
+    requires { ⌜ (s < 32) × (length (now d) ≡ 512) × (i < 16) ⌝ }
+    ensures any { λ r. ⌜ r .any ≡ true ⌝ }
+    ensures records { λ r. ⌜ r .rec ≡ keptIn s (now (d .entry)) i (kept .rec) ⌝ }
 {
-    if !is_kept(s, g, d, i) {
-        return w;
-    }
+    kept.any = true;
     let idx = s * 16 + i;
-    let rec = w.rec;
+    let rec = kept.rec;
     let Found::At(k) = place_of(rec, idx as usize) else {
-        return w;
+        return kept;
     };
     let e = copied(d, i as usize * 32);
-    w.rec[k] = Rec {
+    kept.rec[k] = Rec {
         slot: idx as u16,
         e: e,
     };
-    w
+    kept
 }
 
-fn keep_all(w: W, s: u32, g: &[u8], d: &[u8]) -> W
+fn keep_all(rec: [Rec; NREC], s: u32, g: &[u8], d: &[u8]) -> Kept
     requires { ⌜ (s < 32) × (length (now g) ≡ 512) × (length (now d) ≡ 512) ⌝ }
-    ensures { λ r. ⌜ r ≡ fold (keepSlot s (now (g .entry)) (now (d .entry))) 16 0 w ⌝ }
+    ensures any { λ r. ⌜ r .any ≡ some (λ i. not (sameSlot (now (g .entry)) (now (d .entry)) (i * 32)) && not (leb (s * 16 + i) 6)) 16 0 ⌝ }
+    ensures records { λ r. ⌜ r .rec ≡ fold (keepRec s (now (g .entry)) (now (d .entry))) 16 0 rec ⌝ }
 {
-    let mut out = w;
+    let mut kept = Kept {
+        any: false,
+        rec: rec,
+    };
     let mut i = 0;
     while i < 16 {
         if is_kept(s, g, d, i) {
-            out = keep_at(out, s, g, d, i);
+            kept = keep_at(kept, s, d, i);
             i += 1;
         } else {
             i += 1;
         }
     }
-    out
+    kept
 }
 
-// Does the sector change a host slot.
-fn any_kept(s: u32, g: &[u8], d: &[u8]) -> bool
-    requires { ⌜ (s < 32) × (length (now g) ≡ 512) × (length (now d) ≡ 512) ⌝ }
-    ensures { λ r. ⌜ r ≡ some (λ i. not (sameSlot (now (g .entry)) (now (d .entry)) (i * 32)) && not (leb (s * 16 + i) 6)) 16 0 ⌝ }
-{
-    let mut i = 0;
-    while i < 16 {
-        if is_kept(s, g, d, i) {
-            return true;
-        }
-        i += 1;
-    }
-    false
+// How a root sector was judged: the refusal number, 0 where it was taken; whether that opens the session; the records then.
+pub struct RootJudged {
+    pub no: u8,
+    pub changed: bool,
+    pub rec: [Rec; NREC],
 }
 
 // A written root sector: the records of its host slots, where it is taken.
+pub fn root_records(
+    rec: [Rec; NREC],
+    pair: [Pair; NPAIR],
+    first: u32,
+    ids: &[u16],
+    starts: &[u16],
+    sizes: &[u32],
+    sorted: bool,
+    s: u32,
+    g: &[u8],
+    d: &[u8],
+) -> RootJudged
+    requires { ⌜ Lent (now ids) (now starts) (now sizes) sorted s (now g) (now d) ⌝ }
+    ensures number { λ r. ⌜ r .no ≡ rootNumber (rootWrite (now (ids .entry)) (now (starts .entry)) (now (sizes .entry)) first pair rec s (now (g .entry)) (now (d .entry))) ⌝ }
+    ensures changed { λ r. ⌜ r .changed ≡ rootChanged (rootWrite (now (ids .entry)) (now (starts .entry)) (now (sizes .entry)) first pair rec s (now (g .entry)) (now (d .entry))) ⌝ }
+    ensures records { λ r. ⌜ r .rec ≡ rootRecords (rootWrite (now (ids .entry)) (now (starts .entry)) (now (sizes .entry)) first pair rec s (now (g .entry)) (now (d .entry))) ⌝ }
+{
+    let no = root_number(ids, starts, sizes, sorted, first, pair, rec, s, g, d);
+    if no != 0 {
+        return RootJudged {
+            no: no,
+            changed: false,
+            rec: rec,
+        };
+    }
+    let kept = keep_all(rec, s, g, d);
+    let then = kept.rec;
+    RootJudged {
+        no: 0,
+        changed: kept.any,
+        rec: then,
+    }
+}
+
+// The same, with the state.
 pub fn root(
-    w: W,
+    mut w: W,
     ids: &[u16],
     starts: &[u16],
     sizes: &[u32],
@@ -224,19 +265,12 @@ pub fn root(
     let first = w.first;
     let pair = w.pair;
     let rec = w.rec;
-    let no = root_number(ids, starts, sizes, sorted, first, pair, rec, s, g, d);
-    if no != 0 {
-        return Judged {
-            no: no,
-            changed: false,
-            w: w,
-        };
-    }
-    let changed = any_kept(s, g, d);
-    let kept = keep_all(w, s, g, d);
+    let o = root_records(rec, pair, first, ids, starts, sizes, sorted, s, g, d);
+    let then = o.rec;
+    w.rec = then;
     Judged {
-        no: 0,
-        changed: changed,
-        w: kept,
+        no: o.no,
+        changed: o.changed,
+        w: w,
     }
 }

@@ -8,11 +8,15 @@ use records::NREC;
 use records::Rec;
 ghost use mathlib.Core.Path.{_≡_};
 ghost use Prim.Native.Nat.{ℕ, _+_, _<_, _≤_};
+ghost use mathlib.Core.Bool.{not, _&&_};
+ghost use lib.Dec.{leb};
 ghost use lib.ListN.{length};
+ghost use Rattle.bits.specs.Bit.{bit};
+ghost use Rattle.slots.specs.Slots.{attrOf, sizeOf, updateName};
 ghost use Rattle.housekeeping.specs.Housekeeping.{isHousekeeping};
 ghost use Rattle.names.specs.Names.{longName};
 ghost use Rattle.names.specs.Held.{held};
-ghost use Rattle.root_slots.specs.RootSlots.{slotAdmitted, strictOf};
+ghost use Rattle.root_slots.specs.RootSlots.{maxUpdate, slotAdmitted, strictOf};
 
 // Bytes of an update file at most.
 pub const MAX_UPDATE: u32 = 638988;
@@ -41,6 +45,21 @@ fn long_housekeeping(rec: [Rec; NREC], d: &[u8], base: usize, idx: usize) -> boo
     is_housekeeping(name_by(rec, d, base, idx, entries_read(rec, d, base, idx)))
 }
 
+// Is the slot at `at` DM40*.BIN, no directory, of at most 638,988 bytes.
+fn is_update(d: &[u8], at: usize) -> bool
+    requires { ⌜ at + 32 ≤ length (now d) ⌝ }
+    ensures { λ r. ⌜ r ≡ (not (bit (attrOf (now (d .entry)) at) 4) && updateName (now (d .entry)) at && leb (sizeOf (now (d .entry)) at) maxUpdate) ⌝ }
+{
+    let attr = slots::fields::attr(d, at);
+    if bits::test_u16(attr as u16, 4) {
+        return false;
+    }
+    if !slots::fields::update_name(d, at) {
+        return false;
+    }
+    slots::fields::size(d, at) <= MAX_UPDATE
+}
+
 // A host slot of the root is taken: free, a long entry, a host's own file or directory, or an update file. `host`: its start is 0 or the host's.
 pub fn rec_ok(rec: [Rec; NREC], d: &[u8], base: usize, idx: usize, host: bool) -> bool
     requires { ⌜ (length (now d) ≡ 512) × (base ≤ idx) × (idx < base + 16) × (7 ≤ idx) ⌝ }
@@ -66,16 +85,10 @@ pub fn rec_ok(rec: [Rec; NREC], d: &[u8], base: usize, idx: usize, host: bool) -
     if !host {
         return false;
     }
-    if long_housekeeping(rec, d, base, idx) {
+    if is_update(d, at) {
         return true;
     }
-    if bits::test_u16(attr as u16, 4) {
-        return false;
-    }
-    if !slots::fields::update_name(d, at) {
-        return false;
-    }
-    slots::fields::size(d, at) <= MAX_UPDATE
+    long_housekeeping(rec, d, base, idx)
 }
 
 // The strict long name of root slot `idx`, given its sector: is it housekeeping.

@@ -1,39 +1,44 @@
-use Prim.Native.Nat.{_-_, _≤_}
-use mathlib.Core.Path.{_≡_}
+use Prim.Native.Nat.{ℕ, _-_, _≤_}
+use mathlib.Core.List.{List}
+use mathlib.Core.Path.{_≡_, sym, ap, _∙_}
+use lib.ListN.{length, getD}
 use Rattle.housekeeping.specs.Housekeeping.{isPrefix}
 use Rattle.housekeeping.specs.EndToEnd.{prefixBytes}
-use Rattle.housekeeping.specs.PrefixLaws.{cut, prefixFrom, prefix-short, prefix-start, prefix-go, prefix-stop, prefix-end}
+use Rattle.housekeeping.specs.PrefixLaws.{cut, prefixFrom, prefix-short, prefix-start, prefix-go, prefix-stop, prefix-end, row-length}
 use native.Mathlib.Omega.{arith}
 use Rattle.housekeeping.proofs.is_prefix.Statement.{statement}
 use Rattle.housekeeping.proofs.is_prefix.Tie as tie
 
+-- a byte of the lent row
+read : {bytes : List ℕ} → bytes ≡ prefixBytes → (i : ℕ) → getD bytes i 0 ≡ getD prefixBytes i 0
+read e i = ap (λ (bs : List ℕ). getD bs i 0) e
+
 abbrev Inv-loop : tie.InvT-loop
-Inv-loop at end name i₀ i = (isPrefix (cut at end) name ≡ prefixFrom at end name i) × (at ≤ i) × (i ≤ end)
+Inv-loop bytes at end name i₀ i = (isPrefix (cut at end) name ≡ prefixFrom at end name i) × (at ≤ i) × (i ≤ end)
 
 abbrev μ-loop : tie.MeasureT-loop
-μ-loop at end name i₀ i = end - i
+μ-loop bytes at end name i₀ i = end - i
 
 sub-if1 : tie.Need-sub-if1 Inv-loop μ-loop
 sub-if1 c = omega arith
 
 returns : tie.Need-returns Inv-loop μ-loop
-returns c = prefix-short _ _ (c .before .args .name .now) (c .before .pre .0) (c .before .pre .1) (omega arith)
+returns c = prefix-short _ _ (c .before .args .name .now) (c .before .pre .1 .0) (c .before .pre .1 .1) (omega arith)
 
 loop-holds : tie.Need-loop-holds Inv-loop μ-loop
-loop-holds c = (prefix-start _ _ _ (c .before .pre .0) (c .before .pre .1) (omega arith), omega arith, omega arith)
+loop-holds c = (prefix-start _ _ _ (c .before .pre .1 .0) (c .before .pre .1 .1) (omega arith), omega arith, omega arith)
 
-array-read-if2 : tie.Need-array-read-if2 Inv-loop μ-loop
-array-read-if2 c = omega arith
+shared-slice-read-if2 : tie.Need-shared-slice-read-if2 Inv-loop μ-loop
+shared-slice-read-if2 c = let n = ap length (c .before .before .before .before .pre .0) ∙ row-length in omega (arith, n)
 
 sub-if2 : tie.Need-sub-if2 Inv-loop μ-loop
 sub-if2 c = omega arith
 
-shared-slice-read-if2 : tie.Need-shared-slice-read-if2 Inv-loop μ-loop
-shared-slice-read-if2 c = omega arith
+shared-slice-read-if2-2 : tie.Need-shared-slice-read-if2-2 Inv-loop μ-loop
+shared-slice-read-if2-2 c = omega arith
 
 returns-2 : tie.Need-returns-2 Inv-loop μ-loop
-unfolding prefixBytes
-returns-2 c = prefix-stop _ _ _ _ _ (c .before .before .before .loop .inv .0) (c .before .before .before .loop .inv .1) (omega arith) (c .if2 .taken)
+returns-2 c = prefix-stop _ _ _ _ _ (c .before .before .before .before .loop .inv .0) (c .before .before .before .before .loop .inv .1) (omega arith) (λ e. c .if2 .taken (read (c .before .before .before .before .before .before .pre .0) _ ∙ e))
 
 add-i : tie.Need-add-i Inv-loop μ-loop
 add-i c = omega arith
@@ -42,9 +47,8 @@ loop-less : tie.Need-loop-less Inv-loop μ-loop
 loop-less c = omega arith
 
 loop-again : tie.Need-loop-again Inv-loop μ-loop
-unfolding prefixBytes
 loop-again c = (
-  prefix-go _ _ _ _ _ (c .before .before .before .loop .inv .0) (c .before .before .before .loop .inv .1) (omega arith) (c .if2 .left),
+  prefix-go _ _ _ _ _ (c .before .before .before .before .loop .inv .0) (c .before .before .before .before .loop .inv .1) (omega arith) (sym (read (c .before .before .before .before .before .before .pre .0) _) ∙ c .if2 .left),
   omega arith,
   omega arith,
 )
@@ -61,9 +65,9 @@ is-prefix-spec =
     sub-if1
     returns
     loop-holds
-    array-read-if2
-    sub-if2
     shared-slice-read-if2
+    sub-if2
+    shared-slice-read-if2-2
     returns-2
     add-i
     loop-less

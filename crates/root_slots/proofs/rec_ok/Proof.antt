@@ -1,5 +1,10 @@
-use mathlib.Core.Path.{sym, _∙_}
+use mathlib.Core.Path.{sym, ap, _∙_}
 use borrow.Author.Tests.{not-true, not-false, eq-eqb, ne-eqb}
+use Rattle.loops.specs.Choices.{or-r}
+use Rattle.bits.specs.Bit.{bit}
+use Rattle.names.specs.Names.{longName}
+use Rattle.housekeeping.specs.Housekeeping.{isHousekeeping}
+use Rattle.root_slots.specs.OrLaws.{or-none}
 use Rattle.root_slots.specs.RootSlots.{slotAdmitted}
 use borrow.Author.Needs.{needs}
 use Rattle.root_slots.proofs.rec_ok.Statement.{statement}
@@ -56,36 +61,19 @@ returns-6 : tie.Need-returns-6
 unfolding slotAdmitted
 returns-6 c = simp (ne-eqb _ _ (c .before .before .before .before .before .before .before .before .before .before .if1 .left), ne-eqb _ _ (c .before .before .before .before .before .before .before .before .if2 .left), sym (c .before .before .before .before .before .before .before .is-long .ensures) ∙ c .before .before .before .before .before .before .if3 .left, ← c .before .before .before .before .before .attr .ensures, sym (c .before .before .before .before .test-u16 .ensures) ∙ c .before .before .before .if4 .left, eq-eqb _ _ (sym (c .before .before .high .ensures) ∙ c .before .if5 .left), not-true (c .before .before .before .before .before .before .before .before .before .before .before .before .before .args .host) (c .if6 .taken))
 
-long-housekeeping-requires : tie.Need-long-housekeeping-requires
-long-housekeeping-requires c κs = search needs
+is-update-requires : tie.Need-is-update-requires
+is-update-requires c κs = search needs
 
 returns-7 : tie.Need-returns-7
 unfolding slotAdmitted
-returns-7 c = simp (ne-eqb _ _ (c .before .before .before .before .before .before .before .before .before .before .before .before .if1 .left), ne-eqb _ _ (c .before .before .before .before .before .before .before .before .before .before .if2 .left), sym (c .before .before .before .before .before .before .before .before .before .is-long .ensures) ∙ c .before .before .before .before .before .before .before .before .if3 .left, ← c .before .before .before .before .before .before .before .attr .ensures, sym (c .before .before .before .before .before .before .test-u16 .ensures) ∙ c .before .before .before .before .before .if4 .left, eq-eqb _ _ (sym (c .before .before .before .before .high .ensures) ∙ c .before .before .before .if5 .left), not-false (c .before .before .before .before .before .before .before .before .before .before .before .before .before .before .before .args .host) (c .before .before .if6 .left), sym (c .before .long-housekeeping .ensures) ∙ c .if7 .taken)
+returns-7 c = simp (ne-eqb _ _ (c .before .before .before .before .before .before .before .before .before .before .before .before .if1 .left), ne-eqb _ _ (c .before .before .before .before .before .before .before .before .before .before .if2 .left), sym (c .before .before .before .before .before .before .before .before .before .is-long .ensures) ∙ c .before .before .before .before .before .before .before .before .if3 .left, ap (λ a. bit a 3) (sym (c .before .before .before .before .before .before .before .attr .ensures)) ∙ sym (c .before .before .before .before .before .before .test-u16 .ensures) ∙ c .before .before .before .before .before .if4 .left, eq-eqb _ _ (sym (c .before .before .before .before .high .ensures) ∙ c .before .before .before .if5 .left), not-false (c .before .before .before .before .before .before .before .before .before .before .before .before .before .before .before .args .host) (c .before .before .if6 .left)) (sym (or-r (isHousekeeping (longName (c .before .before .before .before .before .before .before .before .before .before .before .before .before .before .before .args .rec) (c .before .before .before .before .before .before .before .before .before .before .before .before .before .before .before .args .d .now) (c .before .before .before .before .before .before .before .before .before .before .before .before .before .before .before .args .base) (c .before .before .before .before .before .before .before .before .before .before .before .before .before .before .before .args .idx))) _ (sym (c .before .is-update .ensures) ∙ c .if7 .taken)))
 
-cast-test-u16-2 : tie.Need-cast-test-u16-2
-cast-test-u16-2 c = search needs
-
-test-u16-requires-2 : tie.Need-test-u16-requires-2
-test-u16-requires-2 c κs = search needs
+long-housekeeping-requires : tie.Need-long-housekeeping-requires
+long-housekeeping-requires c κs = search needs
 
 returns-8 : tie.Need-returns-8
 unfolding slotAdmitted
-returns-8 c = simp (ne-eqb _ _ (c .before .before .before .before .before .before .before .before .before .before .before .before .before .before .if1 .left), ne-eqb _ _ (c .before .before .before .before .before .before .before .before .before .before .before .before .if2 .left), sym (c .before .before .before .before .before .before .before .before .before .before .before .is-long .ensures) ∙ c .before .before .before .before .before .before .before .before .before .before .if3 .left, ← c .before .before .before .before .before .before .before .before .before .attr .ensures, sym (c .before .before .before .before .before .before .before .before .test-u16 .ensures) ∙ c .before .before .before .before .before .before .before .if4 .left, eq-eqb _ _ (sym (c .before .before .before .before .before .before .high .ensures) ∙ c .before .before .before .before .before .if5 .left), not-false (c .before .before .before .before .before .before .before .before .before .before .before .before .before .before .before .before .before .args .host) (c .before .before .before .before .if6 .left), sym (c .before .before .before .long-housekeeping .ensures) ∙ c .before .before .if7 .left, sym (c .before .test-u162 .ensures) ∙ c .if8 .taken)
-
-update-name-requires : tie.Need-update-name-requires
-update-name-requires c κs = search needs
-
-returns-9 : tie.Need-returns-9
-unfolding slotAdmitted
-returns-9 c = simp (ne-eqb _ _ (c .before .before .before .before .before .before .before .before .before .before .before .before .before .before .before .before .if1 .left), ne-eqb _ _ (c .before .before .before .before .before .before .before .before .before .before .before .before .before .before .if2 .left), sym (c .before .before .before .before .before .before .before .before .before .before .before .before .before .is-long .ensures) ∙ c .before .before .before .before .before .before .before .before .before .before .before .before .if3 .left, ← c .before .before .before .before .before .before .before .before .before .before .before .attr .ensures, sym (c .before .before .before .before .before .before .before .before .before .before .test-u16 .ensures) ∙ c .before .before .before .before .before .before .before .before .before .if4 .left, eq-eqb _ _ (sym (c .before .before .before .before .before .before .before .before .high .ensures) ∙ c .before .before .before .before .before .before .before .if5 .left), not-false (c .before .before .before .before .before .before .before .before .before .before .before .before .before .before .before .before .before .before .before .args .host) (c .before .before .before .before .before .before .if6 .left), sym (c .before .before .before .before .before .long-housekeeping .ensures) ∙ c .before .before .before .before .if7 .left, sym (c .before .before .before .test-u162 .ensures) ∙ c .before .before .if8 .left, sym (c .before .update-name .ensures) ∙ not-true _ (c .if9 .taken))
-
-size-requires : tie.Need-size-requires
-size-requires c κs = search needs
-
-returns-10 : tie.Need-returns-10
-unfolding slotAdmitted
-returns-10 c = simp (ne-eqb _ _ (c .before .before .before .before .before .before .before .before .before .before .before .before .before .before .before .before .before .if1 .left), ne-eqb _ _ (c .before .before .before .before .before .before .before .before .before .before .before .before .before .before .before .if2 .left), sym (c .before .before .before .before .before .before .before .before .before .before .before .before .before .before .is-long .ensures) ∙ c .before .before .before .before .before .before .before .before .before .before .before .before .before .if3 .left, ← c .before .before .before .before .before .before .before .before .before .before .before .before .attr .ensures, sym (c .before .before .before .before .before .before .before .before .before .before .before .test-u16 .ensures) ∙ c .before .before .before .before .before .before .before .before .before .before .if4 .left, eq-eqb _ _ (sym (c .before .before .before .before .before .before .before .before .before .high .ensures) ∙ c .before .before .before .before .before .before .before .before .if5 .left), not-false (c .before .before .before .before .before .before .before .before .before .before .before .before .before .before .before .before .before .before .before .before .args .host) (c .before .before .before .before .before .before .before .if6 .left), sym (c .before .before .before .before .before .before .long-housekeeping .ensures) ∙ c .before .before .before .before .before .if7 .left, sym (c .before .before .before .before .test-u162 .ensures) ∙ c .before .before .before .if8 .left, sym (c .before .before .update-name .ensures) ∙ not-false _ (c .before .if9 .left), ← c .size .ensures)
+returns-8 c = simp (ne-eqb _ _ (c .before .before .before .before .before .before .before .before .before .before .before .before .before .if1 .left), ne-eqb _ _ (c .before .before .before .before .before .before .before .before .before .before .before .if2 .left), sym (c .before .before .before .before .before .before .before .before .before .before .is-long .ensures) ∙ c .before .before .before .before .before .before .before .before .before .if3 .left, ap (λ a. bit a 3) (sym (c .before .before .before .before .before .before .before .before .attr .ensures)) ∙ sym (c .before .before .before .before .before .before .before .test-u16 .ensures) ∙ c .before .before .before .before .before .before .if4 .left, eq-eqb _ _ (sym (c .before .before .before .before .before .high .ensures) ∙ c .before .before .before .before .if5 .left), not-false (c .before .before .before .before .before .before .before .before .before .before .before .before .before .before .before .before .args .host) (c .before .before .before .if6 .left)) (c .long-housekeeping .ensures ∙ sym (or-none _ _ (sym (c .before .before .is-update .ensures) ∙ c .before .if7 .left)))
 
 pub rec-ok-spec : {M : Type 1} → statement M
 rec-ok-spec =
@@ -106,12 +94,7 @@ rec-ok-spec =
     high-requires
     returns-5
     returns-6
-    long-housekeeping-requires
+    is-update-requires
     returns-7
-    cast-test-u16-2
-    test-u16-requires-2
-    returns-8
-    update-name-requires
-    returns-9
-    size-requires
-    returns-10)
+    long-housekeeping-requires
+    returns-8)

@@ -1,0 +1,3 @@
+-- The last file of a table.
+pub mod LastFile
+pub mod LastLaws

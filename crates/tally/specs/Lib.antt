@@ -1,0 +1,2 @@
+-- What every judged sector leaves in the state.
+pub mod Tally
