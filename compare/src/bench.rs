@@ -161,6 +161,14 @@ fn update(s: &mut Start, size: u32) {
     });
 }
 
+fn crc(s: &mut Start) {
+    for n in [128, 512, 600_000] {
+        let bytes = vec![0x5A; n];
+        let runs = if n > 1000 { 101 } else { 2001 };
+        both(&format!("CRC of {n} bytes"), s, runs, &mut || told(original::crc16(7, &bytes)), &mut |_| told(unsafe { vwrite_crc16(7, bytes.as_ptr(), n) }));
+    }
+}
+
 pub fn run() {
     println!("{:<34} {:>4} {:>9} {:>9} {:>6}", "cycles, medians", "rows", "the Rust", "ours", "ratio");
     for n in [0, 50, 400] {
@@ -171,7 +179,8 @@ pub fn run() {
         write("root sector unchanged", &mut s, &Change { lba: 509, edits: vec![] }, 0);
         write("boot byte", &mut s, &Change { lba: 0, edits: vec![(0x25, vec![1])] }, 0);
         write("FAT entry of a free cluster", &mut s, &hosts::entries(&[(60_000, 0xFFFF)], 1)[0], 0);
-        write("root record", &mut s, &hosts::root_slots(40, &[hosts::slot(b"DM40FW  BIN", 0x20, 60_000, 600)])[0], 0);
+        write("root record: an update file", &mut s, &hosts::root_slots(40, &[hosts::slot(b"DM40FW  BIN", 0x20, 60_000, 600)])[0], 0);
+        write("root record: housekeeping", &mut s, &hosts::root_slots(40, &[hosts::slot(b"$RECYCLEBIN", 0x10, 60_000, 0)])[0], 0);
         write("staged, a new block", &mut s, &hosts::data(60_000, 3, &[7; 512]), 0);
         let held = Change { lba: DATA_START + (60_000 - 2) * SPC + 4, edits: vec![(0, vec![9; 512])] };
         let kept = s.w;
@@ -193,6 +202,7 @@ pub fn run() {
         session(&mut s);
         if n == 50 {
             update(&mut s, 600_000);
+            crc(&mut s);
         }
     }
 }

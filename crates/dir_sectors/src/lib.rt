@@ -2,6 +2,9 @@
 use file_table::MAX_VF;
 use loops::Found;
 use medium::reads::moved_ref;
+use slots::dates::dates_only;
+use slots::dates::is_turn;
+use slots::dates::same_slot;
 use state::w::NST;
 use state::w::St;
 use vdisk::ids::MOVED;
@@ -10,11 +13,9 @@ use vdisk::ids::id_dir;
 ghost use mathlib.Core.Path.{_≡_};
 ghost use Prim.Native.Nat.{ℕ, _<_, _≤_};
 ghost use lib.ListN.{length};
-ghost use lib.Dec.{eqb};
 ghost use Rattle.loops.specs.Loops.{pick};
 ghost use Rattle.loops.specs.Rows.{rows as rowsOf};
 ghost use Rattle.bits.specs.Bit.{setBit};
-ghost use Rattle.medium.specs.Reads.{movedRef};
 ghost use Rattle.dir_sectors.specs.DirLaws.{TurnsOf, markId};
 ghost use Rattle.dir_sectors.specs.Dir.{dirWrite, fileAt, rowOf, turnedBy, slotPasses, dirNumber, turnId, dirId, dirIds, dirChanged};
 ghost use Rattle.dir_sectors.specs.Lent.{Lent};
@@ -35,10 +36,10 @@ fn file_at(
     requires { ⌜ Lent (now ids) (now slots) (now starts) (now sizes) s (now g) (now d) × (j < length (now ids)) ⌝ }
     ensures { λ r. ⌜ r ≡ fileAt (dirWrite (now (ids .entry)) (now (slots .entry)) (now (starts .entry)) (now (sizes .entry)) k s (now (g .entry)) (now (d .entry))) n j ⌝ }
 {
-    if id_dir(ids[j]) != k {
+    if slots[j] as u32 != n {
         return false;
     }
-    if slots[j] as u32 != n {
+    if id_dir(ids[j]) != k {
         return false;
     }
     !bits::test_u16(ids[j], TURNED)
@@ -87,7 +88,7 @@ fn turned_by(
     if 3 <= k {
         return Found::Nothing;
     }
-    if !slots::dates::is_turn(g, d, i as usize * 32) {
+    if !is_turn(g, d, i as usize * 32) {
         return Found::Nothing;
     }
     row_of(ids, slots, starts, sizes, k, s, g, d, s * 16 + i)
@@ -100,7 +101,7 @@ struct Turns {
     rows: [u8; MAX_VF],
 }
 
-// Each slot passes by its dates or by a turn.
+// Each slot passes unchanged, by its dates or by a turn.
 fn slot_turns(
     ids: &[u16],
     slots: &[u16],
@@ -118,6 +119,10 @@ fn slot_turns(
     let mut any = false;
     let mut i = 0;
     while i < 16 {
+        if same_slot(g, d, i as usize * 32) {
+            i += 1;
+            continue;
+        }
         match turned_by(ids, slots, starts, sizes, k, s, g, d, i) {
             Found::At(j) => {
                 rows[j] = 1;
@@ -125,7 +130,7 @@ fn slot_turns(
                 i += 1;
             }
             Found::Nothing => {
-                if !slots::dates::dates_only(g, d, i as usize * 32) {
+                if !dates_only(g, d, i as usize * 32) {
                     return Turns {
                         no: 9,
                         any: false,
@@ -154,16 +159,7 @@ fn turned_id(id: u16, moved: bool) -> u16
     turned
 }
 
-// What row `j` becomes.
-fn row_id(id: u16, mark: u8, start: u16, size: u32, fat: &[u16], area: &[u8], st: [St; NST]) -> u16
-    ensures { λ r. ⌜ r ≡ pick (eqb mark 1) (pick (movedRef (now (fat .entry)) (now (area .entry)) st start size) (setBit (setBit id 12) 15) (setBit id 12)) id ⌝ }
-{
-    if mark != 1 {
-        return id;
-    }
-    turned_id(id, moved_ref(fat, area, st, start, size))
-}
-
+// The rows that are marked 1 are turned; the staged sectors are searched for those alone.
 fn mark_rows(
     ids: &mut [u16],
     rows: &[u8],
@@ -178,9 +174,13 @@ fn mark_rows(
 {
     let mut j = 0;
     while j < ids.len() {
-        let id = row_id(ids[j], rows[j], starts[j], sizes[j], fat, area, st);
-        ids[j] = id;
-        j += 1;
+        if rows[j] == 1 {
+            let id = turned_id(ids[j], moved_ref(fat, area, st, starts[j], sizes[j]));
+            ids[j] = id;
+            j += 1;
+        } else {
+            j += 1;
+        }
     }
 }
 

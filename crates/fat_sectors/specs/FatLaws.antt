@@ -2,11 +2,11 @@
 use Prim.Native.Nat.{ℕ, _+_, _-_, _*_, _<_, _≤_, min, max}
 use mathlib.Core.Bool.{Bool, true, false, not, _&&_, _||_}
 use mathlib.Core.List.{List}
-use mathlib.Core.Path.{_≡_, ap}
+use mathlib.Core.Path.{_≡_, refl, ap}
 use native.Mathlib.Omega.{arith}
 use lib.Dec.{leb, ltb, eqb}
 use lib.ListN.{getD, length}
-use borrow.Author.Tests.{le-leb, lt-ltb, leb-true, ltb-true}
+use borrow.Author.Tests.{eq-eqb, ne-eqb, le-leb, lt-ltb, leb-true, ltb-true}
 use Rattle.loops.specs.Loops.{pick, all}
 use Rattle.loops.specs.Choices.{either, picked, same-if, and-0, and-1, or-by, or-l, or-r}
 use Rattle.loops.specs.Facts.{all-at, all-of}
@@ -20,9 +20,11 @@ use Rattle.vdisk.specs.OwnerLaws.{owner-is}
 use Rattle.vdisk.specs.declared.owner.Own.{Own}
 use Rattle.vdisk.specs.declared.owner.Own.the-variants.{Reserved, Fixed, Dyn, Free}
 use Rattle.file_table.specs.Table.{inFile, maxFiles}
+use Rattle.state.specs.Pairs.{setPair}
+use Rattle.state.specs.Setters.{withFat1}
 use Rattle.state.specs.declared.w.W.{W}
 use Rattle.clusters.specs.Clusters.{isLive}
-use Rattle.fat_sectors.specs.Fat.{FatWrite, clusterAt, changedAt, zeroedAt, zeroesFile, ownerAt, entryNumber, refusedAt, needsPair, freedOwn, freedBy, freesRow, freeId, applyAt}
+use Rattle.fat_sectors.specs.Fat.{FatWrite, clusterAt, valueAt, changedAt, zeroedAt, zeroesFile, ownerAt, entryNumber, refusedAt, needsPair, freedOwn, freedBy, freesRow, freedOwner, freeId, applyAt}
 
 -- the entry of cluster c is written 0
 abbrev pub zeroOf : FatWrite → ℕ → Bool
@@ -84,6 +86,10 @@ module _ (x : FatWrite) (i : ℕ) (same : changedAt x i ≡ false) where
   unfolding needsPair
   same-needs = rw same
 
+  pub same-frees : freedBy x i ≡ Nothing
+  unfolding freedBy
+  same-frees = rw same
+
 freedOwn-is : (x : FatWrite) (i j : ℕ) (o : Own) → freedOwn x i o ≡ At j → o ≡ Dyn j
 unfolding freedOwn
 freedOwn-is x i j Reserved = λ (e : Nothing ≡ At j). let z : _≡_ {A = ℕ} 0 1 = cc in absurd (omega arith)
@@ -109,7 +115,44 @@ freed-ids x rows m l =
     rows-same (λ j id. pick (eqb (getD rows j 0) 1) (setBit id 13) id) (freeId x) (x .ids)
     (λ j id h. ap (λ (b : Bool). pick b (setBit id 13) id) (marked (freedBy x) maxFiles 256 rows m j (omega arith)))
 
+-- the owner is a file whose row is marked 1
+unfoldable pub markedOwner : List ℕ → Own → Bool
+markedOwner rows Reserved = false
+markedOwner rows Fixed = false
+markedOwner rows (Dyn j) = eqb (getD rows j 0) 1
+markedOwner rows Free = false
+
+marked-by : (x : FatWrite) (rows : List ℕ) → Marks (freedBy x) maxFiles 256 rows → (o : Own) → ((j : ℕ) → o ≡ Dyn j → j < maxFiles)
+    → markedOwner rows o ≡ freedOwner x o
+unfolding markedOwner freedOwner freesRow
+marked-by x rows m Reserved h = refl
+marked-by x rows m Fixed h = refl
+marked-by x rows m (Dyn j) h = marked (freedBy x) maxFiles 256 rows m j (h j refl)
+marked-by x rows m Free h = refl
+
+-- which are those that the sector frees
+pub marked-owner : (x : FatWrite) (rows : List ℕ) → Marks (freedBy x) maxFiles 256 rows → length (x .starts) ≤ maxFiles → (i : ℕ)
+    → markedOwner rows (ownerAt x i) ≡ freedOwner x (ownerAt x i)
+marked-owner x rows m l i =
+    marked-by x rows m (ownerAt x i)
+    (λ j e. let k = owner-is (x .starts) (x .sizes) (x .first) (clusterAt x i) j e .row in omega arith)
+
 -- an entry as shown changes nothing
-pub unchanged-entry : (x : FatWrite) (i : ℕ) (w : W) → changedAt x i ≡ false → applyAt x i w ≡ w
-unfolding applyAt
-unchanged-entry x i w e = rw e
+module _ (x : FatWrite) (i : ℕ) (w : W) where
+  pub unchanged-entry : changedAt x i ≡ false → applyAt x i w ≡ w
+  unfolding applyAt
+  unchanged-entry e = rw e
+
+  -- a changed one sets FAT[1], nothing for a file that is freed, or the cluster's pair
+  module _ (changed : changedAt x i ≡ true) where
+    pub fat1-entry : clusterAt x i ≡ 1 → applyAt x i w ≡ withFat1 w (valueAt x i + 65536)
+    unfolding applyAt
+    fat1-entry e = rw (changed, eq-eqb (clusterAt x i) 1 e)
+
+    pub freed-entry : (clusterAt x i ≡ 1 → ⊥) → freedOwner x (ownerAt x i) ≡ true → applyAt x i w ≡ w
+    unfolding applyAt
+    freed-entry h f = rw (changed, ne-eqb (clusterAt x i) 1 h, f)
+
+    pub pair-entry : (clusterAt x i ≡ 1 → ⊥) → freedOwner x (ownerAt x i) ≡ false → applyAt x i w ≡ setPair w (clusterAt x i) (valueAt x i)
+    unfolding applyAt
+    pair-entry h f = rw (changed, ne-eqb (clusterAt x i) 1 h, f)

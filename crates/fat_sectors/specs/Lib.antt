@@ -4,3 +4,5 @@ pub mod Fat
 pub mod Lent
 pub mod NamedValues
 pub mod FatLaws
+pub mod Stores
+pub mod Scanned

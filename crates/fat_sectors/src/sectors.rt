@@ -3,8 +3,12 @@ use crate::entries::entry_number;
 use crate::entries::freed_by;
 use crate::entries::is_changed;
 use crate::entries::needs_pair;
+use crate::stores::Store;
+use crate::stores::pair_store;
+use crate::stores::unused_slot;
 use file_table::MAX_VF;
 use loops::Found;
+use state::staged::slot_of;
 use state::w::Judged;
 use state::w::NPAIR;
 use state::w::Pair;
@@ -13,7 +17,7 @@ use vdisk::ids::FREED;
 use vdisk::owner::Own;
 use vdisk::owner::owner;
 ghost use mathlib.Core.Path.{_≡_};
-ghost use mathlib.Core.Bool.{true, not, _&&_};
+ghost use mathlib.Core.Bool.{true};
 ghost use Prim.Native.Nat.{ℕ, _<_, _≤_};
 ghost use lib.Dec.{eqb};
 ghost use lib.ListN.{length, getD};
@@ -21,12 +25,21 @@ ghost use Rattle.loops.specs.Loops.{pick, fold};
 ghost use Rattle.loops.specs.Rows.{rows as rowsOf};
 ghost use Rattle.loops.specs.Marks.{Marks};
 ghost use Rattle.bits.specs.Bit.{setBit};
-ghost use Rattle.fat_sectors.specs.Fat.{fatWrite, fatNumber, freedBy, freedOwner, applyAt, fatState, freeId, fatIds, ownerAt};
+ghost use Rattle.fat_sectors.specs.Fat.{fatWrite, fatNumber, freedBy, applyAt, fatState, freeId, fatIds};
+ghost use Rattle.fat_sectors.specs.FatLaws.{markedOwner};
+ghost use Rattle.vdisk.specs.Owner.{ownerOf, rises};
 ghost use Rattle.file_table.specs.Table.{maxFiles};
 ghost use Rattle.fat_sectors.specs.Lent.{Lent};
+ghost use Rattle.fat_sectors.specs.Scanned.{ScannedAs};
+
+// What the entries of a sector tell: the refusal number, and, where that is 0, 1 at each row that the sector frees.
+struct Scanned {
+    no: u8,
+    rows: [u8; MAX_VF],
+}
 
 // The entries in turn, up to the first that is refused; then 14.
-fn fat_number(
+fn scan(
     ids: &[u16],
     starts: &[u16],
     sizes: &[u32],
@@ -36,56 +49,34 @@ fn fat_number(
     s: u32,
     g: &[u8],
     d: &[u8],
-) -> u8
+) -> Scanned
     requires { ⌜ Lent (now ids) (now starts) (now sizes) sorted s (now g) (now d) ⌝ }
-    ensures { λ r. ⌜ r ≡ fatNumber (fatWrite (now (ids .entry)) (now (starts .entry)) (now (sizes .entry)) first pair s (now (g .entry)) (now (d .entry))) ⌝ }
+    ensures { λ r. ⌜ ScannedAs (fatWrite (now (ids .entry)) (now (starts .entry)) (now (sizes .entry)) first pair s (now (g .entry)) (now (d .entry))) r ⌝ }
 {
-    let free = state::pairs::free_pairs(pair);
+    let mut out = Scanned {
+        no: 0,
+        rows: [0u8; MAX_VF],
+    };
     let mut need = 0;
     let mut i = 0;
     while i < 256 {
         if !is_changed(g, d, i) {
             i += 1;
-        } else {
-            let no = entry_number(ids, starts, sizes, sorted, first, pair, s, g, d, i);
-            if no != 0 {
-                return no;
-            }
-            if needs_pair(ids, starts, sizes, sorted, first, pair, s, g, d, i) {
-                need += 1;
-                i += 1;
-            } else {
-                i += 1;
-            }
+            continue;
         }
-    }
-    if free < need {
-        return 14;
-    }
-    0
-}
-
-// Which rows the sector frees: 1 at each.
-fn freed_rows(
-    ids: &[u16],
-    starts: &[u16],
-    sizes: &[u32],
-    sorted: bool,
-    first: u32,
-    pair: [Pair; NPAIR],
-    s: u32,
-    g: &[u8],
-    d: &[u8],
-) -> [u8; MAX_VF]
-    requires { ⌜ Lent (now ids) (now starts) (now sizes) sorted s (now g) (now d) ⌝ }
-    ensures { λ r. ⌜ Marks (freedBy (fatWrite (now (ids .entry)) (now (starts .entry)) (now (sizes .entry)) first pair s (now (g .entry)) (now (d .entry)))) maxFiles 256 r ⌝ }
-{
-    let mut rows = [0u8; MAX_VF];
-    let mut i = 0;
-    while i < 256 {
+        let no = entry_number(ids, starts, sizes, sorted, first, pair, s, g, d, i);
+        if no != 0 {
+            out.no = no;
+            return out;
+        }
+        if needs_pair(ids, starts, sizes, sorted, first, pair, s, g, d, i) {
+            need += 1;
+            i += 1;
+            continue;
+        }
         match freed_by(ids, starts, sizes, sorted, first, pair, s, g, d, i) {
             Found::At(j) => {
-                rows[j] = 1;
+                out.rows[j] = 1;
                 i += 1;
             }
             Found::Nothing => {
@@ -93,28 +84,20 @@ fn freed_rows(
             }
         }
     }
-    rows
+    if state::pairs::free_pairs(pair) < need {
+        out.no = 14;
+        return out;
+    }
+    out
 }
 
-// Is the cluster of entry `i` one of a file that the sector frees.
-fn is_freed(
-    ids: &[u16],
-    starts: &[u16],
-    sizes: &[u32],
-    sorted: bool,
-    first: u32,
-    pair: [Pair; NPAIR],
-    s: u32,
-    g: &[u8],
-    d: &[u8],
-    rows: &[u8],
-    i: u32,
-) -> bool
-    requires lent { ⌜ Lent (now ids) (now starts) (now sizes) sorted s (now g) (now d) × (i < 256) × (length (now rows) ≡ maxFiles) ⌝ }
-    requires marked { ⌜ Marks (freedBy (fatWrite (now ids) (now starts) (now sizes) first pair s (now g) (now d))) maxFiles 256 (now rows) ⌝ }
-    ensures { λ r. ⌜ r ≡ freedOwner (fatWrite (now (ids .entry)) (now (starts .entry)) (now (sizes .entry)) first pair s (now (g .entry)) (now (d .entry))) (ownerAt (fatWrite (now (ids .entry)) (now (starts .entry)) (now (sizes .entry)) first pair s (now (g .entry)) (now (d .entry))) i) ⌝ }
+// Is cluster `c` one of a file whose row is marked 1.
+fn is_freed(starts: &[u16], sizes: &[u32], sorted: bool, first: u32, rows: &[u8], c: u32) -> bool
+    requires lengths { ⌜ (length (now starts) ≡ length (now sizes)) × (length (now starts) ≤ length (now rows)) ⌝ }
+    requires rising { ⌜ (sorted ≡ true → rises (now starts) ≡ true) ⌝ }
+    ensures { λ r. ⌜ r ≡ markedOwner (now (rows .entry)) (ownerOf (now (starts .entry)) (now (sizes .entry)) first c) ⌝ }
 {
-    match owner(starts, sizes, sorted, first, s * 256 + i) {
+    match owner(starts, sizes, sorted, first, c) {
         Own::Reserved => false,
         Own::Fixed => false,
         Own::Dyn(j) => rows[j] == 1,
@@ -122,47 +105,12 @@ fn is_freed(
     }
 }
 
-// A changed entry put into the state: FAT[1], or a pair.
-fn apply_at(
-    ids: &[u16],
-    starts: &[u16],
-    sizes: &[u32],
-    sorted: bool,
-    first: u32,
-    pair: [Pair; NPAIR],
-    s: u32,
-    g: &[u8],
-    d: &[u8],
-    rows: &[u8],
-    i: u32,
-    mut w: W,
-) -> W
-    requires lent { ⌜ Lent (now ids) (now starts) (now sizes) sorted s (now g) (now d) × (i < 256) × (length (now rows) ≡ maxFiles) ⌝ }
-    requires marked { ⌜ Marks (freedBy (fatWrite (now ids) (now starts) (now sizes) first pair s (now g) (now d))) maxFiles 256 (now rows) ⌝ }
-    ensures { λ r. ⌜ r ≡ applyAt (fatWrite (now (ids .entry)) (now (starts .entry)) (now (sizes .entry)) first pair s (now (g .entry)) (now (d .entry))) i w ⌝ }
-{
-    if !is_changed(g, d, i) {
-        return w;
-    }
-    let c = s * 256 + i;
-    let v = sector::le16(d, i as usize * 2);
-    if c == 1 {
-        w.fat1 = v as u32 + 65536;
-        return w;
-    }
-    if is_freed(ids, starts, sizes, sorted, first, pair, s, g, d, rows, i) {
-        return w;
-    }
-    state::pairs::set_pair(w, c as u16, v)
-}
-
+// The changed entries put into the state, in place: FAT[1], or a pair. A file that the sector frees gets none.
 fn apply_all(
     ids: &[u16],
     starts: &[u16],
     sizes: &[u32],
     sorted: bool,
-    first: u32,
-    pair: [Pair; NPAIR],
     s: u32,
     g: &[u8],
     d: &[u8],
@@ -170,30 +118,42 @@ fn apply_all(
     w: W,
 ) -> W
     requires lent { ⌜ Lent (now ids) (now starts) (now sizes) sorted s (now g) (now d) × (length (now rows) ≡ maxFiles) ⌝ }
-    requires marked { ⌜ Marks (freedBy (fatWrite (now ids) (now starts) (now sizes) first pair s (now g) (now d))) maxFiles 256 (now rows) ⌝ }
-    ensures { λ r. ⌜ r ≡ fold (applyAt (fatWrite (now (ids .entry)) (now (starts .entry)) (now (sizes .entry)) first pair s (now (g .entry)) (now (d .entry)))) 256 0 w ⌝ }
+    requires marked { ⌜ Marks (freedBy (fatWrite (now ids) (now starts) (now sizes) (w .first) (w .pair) s (now g) (now d))) maxFiles 256 (now rows) ⌝ }
+    ensures { λ r. ⌜ r ≡ fold (applyAt (fatWrite (now (ids .entry)) (now (starts .entry)) (now (sizes .entry)) (w .first) (w .pair) s (now (g .entry)) (now (d .entry)))) 256 0 w ⌝ }
 {
+    let first = w.first;
     let mut out = w;
-    let mut i = 0;
-    while i < 256 {
-        if is_changed(g, d, i) {
-            out = apply_at(
-                ids,
-                starts,
-                sizes,
-                sorted,
-                first,
-                pair,
-                s,
-                g,
-                d,
-                rows,
-                i,
-                out,
-            );
-            i += 1;
-        } else {
-            i += 1;
+    for i in 0..256 {
+        if !is_changed(g, d, i) {
+            continue;
+        }
+        let c = s * 256 + i;
+        let v = sector::le16(d, i as usize * 2);
+        if c == 1 {
+            out.fat1 = v as u32 + 65536;
+            continue;
+        }
+        if is_freed(starts, sizes, sorted, first, rows, c) {
+            continue;
+        }
+        let pair = out.pair;
+        match pair_store(pair, c as u16, v) {
+            Store::Keep => {
+                continue;
+            }
+            Store::Put(k) => {
+                out.pair[k] = Pair { c: c as u16, v: v };
+                continue;
+            }
+            Store::Remove(k) => {
+                out.pair[k] = Pair { c: 0, v: 0 };
+                let st = out.st;
+                let Found::At(m) = slot_of(st, c) else {
+                    continue;
+                };
+                let unused = unused_slot();
+                out.st[m] = unused;
+            }
         }
     }
     out
@@ -240,16 +200,16 @@ pub fn fat(
 {
     let first = w.first;
     let pair = w.pair;
-    let no = fat_number(ids, starts, sizes, sorted, first, pair, s, g, d);
-    if no != 0 {
+    let scanned = scan(ids, starts, sizes, sorted, first, pair, s, g, d);
+    if scanned.no != 0 {
         return Judged {
-            no: no,
+            no: scanned.no,
             changed: false,
             w: w,
         };
     }
-    let rows = freed_rows(ids, starts, sizes, sorted, first, pair, s, g, d);
-    let out = apply_all(ids, starts, sizes, sorted, first, pair, s, g, d, &rows, w);
+    let rows = scanned.rows;
+    let out = apply_all(ids, starts, sizes, sorted, s, g, d, &rows, w);
     mark_freed(ids, &rows);
     Judged {
         no: 0,

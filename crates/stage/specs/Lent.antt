@@ -3,7 +3,6 @@ use Prim.Native.Nat.{ℕ, _<_}
 use mathlib.Core.List.{List}
 use mathlib.Core.Path.{_≡_}
 use lib.ListN.{length}
-use Rattle.state.specs.State.{maxSlots}
 
 pub record Lent (ids starts sizes : List ℕ) (c s : ℕ) (written : List ℕ) : Type 0 where
   pub ids-starts : length starts ≡ length ids
@@ -12,10 +11,7 @@ pub record Lent (ids starts sizes : List ℕ) (c s : ℕ) (written : List ℕ) :
   pub sector : s < 64
   pub written-512 : length written ≡ 512
 
--- and to those that a slot is given: one of the 28
-pub record SlotLent (ids starts sizes : List ℕ) (i s : ℕ) (written : List ℕ) : Type 0 where
-  pub ids-starts : length starts ≡ length ids
-  pub ids-sizes : length sizes ≡ length ids
-  pub slot : i < maxSlots
+-- and to those that a slot is given
+pub record SlotLent (s : ℕ) (written : List ℕ) : Type 0 where
   pub sector : s < 64
   pub written-512 : length written ≡ 512

@@ -1,5 +1,5 @@
 -- A sector of a host cluster is staged.
 pub mod Lent
-pub mod Parts
+pub mod Fates
 pub mod StageLaws
 pub mod CallLaws

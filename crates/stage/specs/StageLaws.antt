@@ -9,15 +9,13 @@ use lib.ListN.{length}
 use borrow.Author.Tests.{le-leb, leb-true, eqb-true}
 use Rattle.loops.specs.Loops.{first}
 use Rattle.loops.specs.Choices.{pick-by, and-of, and-1, and-0, or-by}
-use Rattle.state.specs.Setters.{withStaging, withHint, withStageT}
 use Rattle.state.specs.declared.w.St.{St}
-use Rattle.state.specs.declared.w.W.{W}
 use Rattle.medium.specs.Medium.{isMedium, hasBlock, freeAt, searchEnd, nextFree}
 use Rattle.medium.specs.MediumLaws.{InArea, block-in}
 use Rattle.medium.specs.declared.blocks.NextFree.{NextFree}
 use Rattle.staging.specs.Blocks.{isParked, heldFor}
 use Rattle.staging.specs.FillLaws.{HeldIn}
-use Rattle.staging.specs.Staging.{StageWrite, refused, startStaging, intoBlock, withBlock}
+use Rattle.stage.specs.Fates.{refusedFate, intoFate, blockFate}
 
 first-from : (p : ℕ → Bool) (n i : ℕ) → i ≤ first p n i
 unfolding first
@@ -49,22 +47,13 @@ pub held-in : (fat area : List ℕ) (x : St) (s : ℕ) → (eqb (heldFor x s) 0 
 held-in fat area x s e h =
     or-by (eqb (heldFor x s) 0) (hasBlock fat area (heldFor x s)) e (λ q. absurd (h (eqb-true (heldFor x s) 0 q))) (λ q. block-in fat area (heldFor x s) q)
 
--- staging was on already, or starts
-pub staging-on : (w : W) → w .staging ≡ true → startStaging w ≡ withStageT w (w .«now_ms»)
-unfolding startStaging
-staging-on w e = rw e
-
-pub staging-off : (w : W) → w .staging ≡ false → startStaging w ≡ withStageT (withHint (withStaging w true) 2) (w .«now_ms»)
-unfolding startStaging
-staging-off w e = rw e
-
 -- a free block was searched for, and none was found, or one
-module _ (x : StageWrite) (w : W) (i : ℕ) (y : St) (n : NextFree)
-    (needs : (eqb (heldFor y (x .s)) 0 || isParked y (x .s)) ≡ true) (e : n ≡ nextFree (x .fat) (w .hint)) where
-  pub free-none : n .found ≡ false → withBlock x w i y ≡ refused x 18 (withHint w (n .hint))
-  unfolding withBlock
+module _ (s : ℕ) (written fat area : List ℕ) (y : St) (hint : ℕ) (n : NextFree)
+    (needs : (eqb (heldFor y s) 0 || isParked y s) ≡ true) (e : n ≡ nextFree fat hint) where
+  pub free-none : n .found ≡ false → blockFate s written fat area y hint ≡ refusedFate s written fat area y 18 (n .hint)
+  unfolding blockFate
   free-none f = rw (needs, ← e, f)
 
-  pub free-found : n .found ≡ true → withBlock x w i y ≡ intoBlock x (withHint w (n .hint)) i y (n .block)
-  unfolding withBlock
+  pub free-found : n .found ≡ true → blockFate s written fat area y hint ≡ intoFate s written fat area y (n .hint) (n .block)
+  unfolding blockFate
   free-found f = rw (needs, ← e, f)

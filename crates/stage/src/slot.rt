@@ -1,20 +1,22 @@
-// What is asked of the slot that a sector is staged in, and what is stored in the state.
+// The slot that a sector is staged in, and what is asked of it.
+use loops::Found;
 use medium::blocks::has_block;
 use medium::reads::read_sector;
 use staging::blocks::is_parked;
+use state::w::BPC;
+use state::w::NST;
 use state::w::St;
-use state::w::W;
 ghost use mathlib.Core.Path.{_≡_};
 ghost use mathlib.Core.Bool.{_&&_, _||_};
-ghost use Prim.Native.Nat.{ℕ, _<_};
+ghost use Prim.Native.Nat.{_<_};
 ghost use lib.Dec.{eqb};
 ghost use lib.ListN.{length};
 ghost use Rattle.sector.specs.Bytes.{same, zeros};
-ghost use Rattle.state.specs.State.{maxSlots};
+ghost use Rattle.state.specs.Staged.{freeSlot};
 ghost use Rattle.medium.specs.Medium.{hasBlock};
 ghost use Rattle.medium.specs.Reads.{sectorOf};
 ghost use Rattle.staging.specs.Blocks.{isParked, heldFor};
-ghost use Rattle.staging.specs.Staging.{startStaging, withSlot};
+ghost use Rattle.stage.specs.Fates.{startHint, freeFor, slotIn};
 
 // The block held for sector `s`, 0 where none is.
 pub fn held_for(y: St, s: u32) -> u16
@@ -72,26 +74,75 @@ pub fn same_parked(fat: &[u16], area: &[u8], y: St, s: u32, d: &[u8]) -> bool
     sector::equal(&cur, d)
 }
 
-// Staging starts with search hint 2 if it was off, and its time is set.
-pub fn start_staging(mut w: W) -> W
-    ensures { λ r. ⌜ r ≡ startStaging w ⌝ }
+// Staging starts with search hint 2 if it was off.
+pub fn start_hint(staging: bool, hint: u32) -> u32
+    ensures { λ r. ⌜ r ≡ startHint staging hint ⌝ }
 {
-    w.stage_t = w.now_ms;
-    if w.staging {
-        return w;
+    if staging {
+        return hint;
     }
-    w.staging = true;
-    w.hint = 2;
-    w
+    2
 }
 
-// The slot as it is staged, and one more on the version.
-pub fn with_slot(mut w: W, i: usize, y: St) -> W
-    requires { ⌜ i < maxSlots ⌝ }
-    ensures { λ r. ⌜ r ≡ withSlot w i y ⌝ }
+// Whether a sector goes to a slot, and the number where it doesn't; the slot's place and what it has, a claimed one nothing but the cluster.
+pub struct SlotFor {
+    pub found: bool,
+    pub no: u8,
+    pub i: usize,
+    pub y: St,
+}
+
+// The first free slot is claimed for cluster `c`, else 16.
+fn free_for(st: [St; NST], c: u32) -> SlotFor
+    requires { ⌜ c < 65536 ⌝ }
+    ensures { λ r. ⌜ r ≡ freeFor st c (freeSlot st) ⌝ }
 {
-    let ver = num::wrapping_next_u32(w.ver);
-    w.st[i] = y;
-    w.ver = ver;
-    w
+    let Found::At(i) = state::staged::free_slot(st) else {
+        let other = st[0];
+        return SlotFor {
+            found: false,
+            no: 16,
+            i: 0,
+            y: other,
+        };
+    };
+    let y = St {
+        c: c as u16,
+        sealed: false,
+        ro: 0,
+        map: 0,
+        blk: [0u16; BPC],
+    };
+    SlotFor {
+        found: true,
+        no: 0,
+        i: i,
+        y: y,
+    }
+}
+
+// The number that settles a sector before a slot is looked for; the slot of cluster `c`, or one that is claimed.
+pub fn slot_for(settled: bool, no: u8, st: [St; NST], c: u32) -> SlotFor
+    requires { ⌜ c < 65536 ⌝ }
+    ensures { λ r. ⌜ r ≡ slotIn settled no st c ⌝ }
+{
+    if settled {
+        let other = st[0];
+        return SlotFor {
+            found: false,
+            no: no,
+            i: 0,
+            y: other,
+        };
+    }
+    let Found::At(i) = state::staged::slot_of(st, c) else {
+        return free_for(st, c);
+    };
+    let y = st[i];
+    SlotFor {
+        found: true,
+        no: 0,
+        i: i,
+        y: y,
+    }
 }

@@ -82,13 +82,14 @@ module _ (lba : ℕ) (shown written : List ℕ) (busy : Bool) (fat area : List �
       → (m ≡ write x w .number) × (v ≡ write x w .w) × (withIds files (take (rowsTaken (length files)) ids) ≡ withIds files (write x w .ids)) × (after ≡ write x w .area)
   files-by m v ids after e = (e .0 ∙ by-columns .0, e .1 ∙ by-columns .1, ap (withIds files) (e .2) ∙ by-columns .2, e .3 ∙ by-columns .3)
 
-  -- what is settled early leaves the files as they are
-  whole-columns : wholeColumns (tableOf (map idOf files) (map dirSlotOf files) (map startOf files) (map sizeOf files) (w .first)) ≡ true
+  -- the files' columns are whole
+  pub whole-columns : wholeColumns (tableOf (map idOf files) (map dirSlotOf files) (map startOf files) (map sizeOf files) (w .first)) ≡ true
   unfolding wholeColumns
   whole-columns =
       let n = length-map files idOf in
       rw (eq-eqb _ _ (length-map files dirSlotOf ∙ sym n), eq-eqb _ _ (length-map files startOf ∙ sym n), eq-eqb _ _ (length-map files sizeOf ∙ sym n))
 
+  -- what is settled early leaves the files as they are
   pub early-by : (e : Early) (t : Tally) → e ≡ earlyOf (w .rw) (length files) lba shown written → e .settled ≡ true → t ≡ tallyIn w lba (e .no)
       → (e .no ≡ write x w .number) × (tallied w t ≡ write x w .w) × (files ≡ withIds files (write x w .ids)) × (area ≡ write x w .area)
   early-by e t a s b =

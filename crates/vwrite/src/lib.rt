@@ -1,13 +1,12 @@
 // The calls that a firmware links. Each takes the state or the table that it is lent apart for a proved function over values,
 // and stores what that gives back.
-mod judged;
-
-use crate::judged::judged;
 use body::BodyCheck;
 use chains::Chain;
+use crc::crc16_upd;
 use file_table::VF;
 use files::load;
 use medium::reads::StagedRead;
+use outer_write::judged::judged;
 use records::RootRec;
 use root_slots::Strict;
 use state::queries::boot_state;
@@ -39,6 +38,7 @@ ghost use Rattle.state.specs.Queries.{bootOf, fat1Of, frozenOf};
 ghost use Rattle.medium.specs.Reads.{stagedAnswer, stagedBytes};
 ghost use Rattle.chains.specs.Chains.{completeOf};
 ghost use Rattle.body.specs.Body.{bodyOf};
+ghost use Rattle.crc.specs.Crc.{crcOf};
 ghost use Rattle.files.specs.Files.{withIds};
 ghost use Rattle.table_calls.specs.Calls.{filesWritten};
 ghost use Rattle.state_calls.specs.Answers.{pairAnswer, dirAnswer, filesOwner};
@@ -147,6 +147,14 @@ pub extern "C" fn vwrite_body_check(
     ensures { λ r. ⌜ r ≡ bodyOf (now (fat .entry)) (now (area .entry)) (now (w .entry) .pair) (now (w .entry) .st) start size ⌝ }
 {
     body_check(*w, fat, area, start, size)
+}
+
+// The update file's CRC of more bytes, after `c`.
+#[no_mangle]
+pub extern "C" fn vwrite_crc16(c: u16, bytes: &[u8]) -> u16
+    ensures { λ r. ⌜ r ≡ crcOf c (now (bytes .entry)) ⌝ }
+{
+    crc16_upd(c, bytes)
 }
 
 // Is the strict long name of a root slot, given its sector, housekeeping.

@@ -132,6 +132,7 @@ extern "C" {
     pub fn vwrite_owner(files: *const File, nfiles: usize, first: u32, c: u32) -> Own;
     pub fn vwrite_dir_kind(c: u32) -> Dir;
     pub fn vwrite_nclus(size: u32) -> u32;
+    pub fn vwrite_crc16(c: u16, bytes: *const u8, n: usize) -> u16;
 
     pub fn vwrite_body_check(w: *const State, fat: *const u16, nfat: usize, area: *const u8, narea: usize, start: u32, size: u32) -> Body;
     pub fn vwrite_start(w: *mut State, files: *const File, nfiles: usize, first: u32) -> u8;

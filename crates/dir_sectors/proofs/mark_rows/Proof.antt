@@ -1,9 +1,10 @@
 use Prim.Native.Nat.{_≤_, _-_}
 use mathlib.Core.List.{_++_}
 use mathlib.Core.Path.{_≡_, refl}
+use borrow.Author.Tests.{eq-eqb}
 use lib.ListN.{length, length-set, take, drop}
 use Rattle.loops.specs.Rows.{rows as rowsOf, rows-more, rows-end}
-use Rattle.dir_sectors.specs.DirLaws.{markId}
+use Rattle.dir_sectors.specs.DirLaws.{markId, unmarked, rows-keep}
 use native.Mathlib.Omega.{arith}
 use Rattle.dir_sectors.proofs.mark_rows.Statement.{statement}
 use Rattle.dir_sectors.proofs.mark_rows.Tie as tie
@@ -17,29 +18,32 @@ abbrev μ-loop : tie.MeasureT-loop
 loop-holds : tie.Need-loop-holds Inv-loop μ-loop
 loop-holds c = (omega arith, refl, refl)
 
-mul-row-id : tie.Need-mul-row-id Inv-loop μ-loop
-mul-row-id c = omega arith
+shared-slice-read-if1 : tie.Need-shared-slice-read-if1 Inv-loop μ-loop
+shared-slice-read-if1 c = omega arith
 
-slice-read-row-id : tie.Need-slice-read-row-id Inv-loop μ-loop
-slice-read-row-id c = omega arith
+mul-turned-id : tie.Need-mul-turned-id Inv-loop μ-loop
+mul-turned-id c = omega arith
 
-shared-slice-read-row-id : tie.Need-shared-slice-read-row-id Inv-loop μ-loop
-shared-slice-read-row-id c = omega arith
+slice-read-turned-id : tie.Need-slice-read-turned-id Inv-loop μ-loop
+slice-read-turned-id c = omega arith
 
-mul-row-id-2 : tie.Need-mul-row-id-2 Inv-loop μ-loop
-mul-row-id-2 c = omega arith
+mul-moved-ref : tie.Need-mul-moved-ref Inv-loop μ-loop
+mul-moved-ref c = omega arith
 
-shared-slice-read-row-id-2 : tie.Need-shared-slice-read-row-id-2 Inv-loop μ-loop
-shared-slice-read-row-id-2 c = omega arith
+shared-slice-read-moved-ref : tie.Need-shared-slice-read-moved-ref Inv-loop μ-loop
+shared-slice-read-moved-ref c = omega arith
 
-mul-row-id-3 : tie.Need-mul-row-id-3 Inv-loop μ-loop
-mul-row-id-3 c = omega arith
+mul-moved-ref-2 : tie.Need-mul-moved-ref-2 Inv-loop μ-loop
+mul-moved-ref-2 c = omega arith
 
-shared-slice-read-row-id-3 : tie.Need-shared-slice-read-row-id-3 Inv-loop μ-loop
-shared-slice-read-row-id-3 c = omega arith
+shared-slice-read-moved-ref-2 : tie.Need-shared-slice-read-moved-ref-2 Inv-loop μ-loop
+shared-slice-read-moved-ref-2 c = omega arith
 
-row-id-requires : tie.Need-row-id-requires Inv-loop μ-loop
-row-id-requires c κs = tt
+moved-ref-requires : tie.Need-moved-ref-requires Inv-loop μ-loop
+moved-ref-requires c κs = tt
+
+turned-id-requires : tie.Need-turned-id-requires Inv-loop μ-loop
+turned-id-requires c κs = tt
 
 mul-ids : tie.Need-mul-ids Inv-loop μ-loop
 mul-ids c = omega arith
@@ -55,7 +59,16 @@ loop-less c = omega arith
 
 loop-again : tie.Need-loop-again Inv-loop μ-loop
 unfolding markId
-loop-again c = (omega arith, simp length-set (c .before .before .before .before .before .before .loop .inv .1), rows-more _ _ _ _ (c .before .before .before .before .before .before .loop .inv .2) (c .row-id .result) (c .row-id .ensures) (omega arith))
+loop-again c = (omega arith, simp length-set (c .before .before .before .before .before .before .before .before .loop .inv .1), rows-more _ _ _ _ (c .before .before .before .before .before .before .before .before .loop .inv .2) (c .turned-id .result) (simp (eq-eqb _ _ (c .before .before .before .before .before .if1 .taken), ← c .before .moved-ref .ensures) (c .turned-id .ensures)) (omega arith))
+
+add-j-2 : tie.Need-add-j-2 Inv-loop μ-loop
+add-j-2 c = omega arith
+
+loop-less-2 : tie.Need-loop-less-2 Inv-loop μ-loop
+loop-less-2 c = omega arith
+
+loop-again-2 : tie.Need-loop-again-2 Inv-loop μ-loop
+loop-again-2 c = (omega arith, c .before .before .before .loop .inv .1, rows-keep _ (c .before .before .before .before .before .before .before .before .before .before .args .ids .now) _ (c .before .before .before .loop .j) (c .before .before .before .loop .inv .2) (unmarked _ _ _ _ _ _ _ _ (c .if1 .left)) (omega arith))
 
 same-length : tie.Need-same-length Inv-loop μ-loop
 same-length c = omega arith
@@ -70,18 +83,22 @@ mark-rows-spec =
     Inv-loop
     μ-loop
     loop-holds
-    mul-row-id
-    slice-read-row-id
-    shared-slice-read-row-id
-    mul-row-id-2
-    shared-slice-read-row-id-2
-    mul-row-id-3
-    shared-slice-read-row-id-3
-    row-id-requires
+    shared-slice-read-if1
+    mul-turned-id
+    slice-read-turned-id
+    mul-moved-ref
+    shared-slice-read-moved-ref
+    mul-moved-ref-2
+    shared-slice-read-moved-ref-2
+    moved-ref-requires
+    turned-id-requires
     mul-ids
     slice-write-ids
     add-j
     loop-less
     loop-again
+    add-j-2
+    loop-less-2
+    loop-again-2
     same-length
     returns)

@@ -24,8 +24,8 @@ use Rattle.files.proofs.Outer.{opened, closed, answered, gone}
 use Rattle.files.proofs.Rows.{let-go}
 use Rattle.files.proofs.Mixed.{holds}
 use Rattle.files.proofs.Locals.{alloc-all}
-use Rattle.vwrite.proofs.Session.{val}
-use Rattle.vwrite.proofs.Fields.{stats-val, early-val, early-is, tally-is, number-early, now-fits, last-fits, err-fits, stats-of, tally-last, tally-err, tally-stats, tallied-holds, early-typed, tally-typed, stats-typed, stats-makes, rw-at, last-at, now-at, err-at, stats-at, look-rw, look-last, look-now, look-err, look-stats, store-last, store-err, store-stats}
+use Rattle.outer_write.proofs.Session.{val}
+use Rattle.outer_write.proofs.Fields.{stats-val, early-val, early-is, tally-is, number-early, now-fits, last-fits, err-fits, stats-of, tally-last, tally-err, tally-stats, tallied-holds, early-typed, tally-typed, stats-typed, stats-makes, rw-at, last-at, now-at, err-at, stats-at, look-rw, look-last, look-now, look-err, look-stats, store-last, store-err, store-stats}
 use Rattle.files.specs.Files.{withIds}
 use Rattle.table_calls.specs.Calls.{filesWritten}
 use Rattle.table_calls.specs.CallLaws.{early-by}
@@ -53,10 +53,10 @@ use Rattle.write.proofs.early.tally_of as g₂
 use Rattle.write.proofs.early.tally_of.Symbol as g₂-def
 use Rattle.write.proofs.early.tally_of.Symbol.{name as #g₂}
 use Rattle.write.proofs.early.tally_of.Met as g₂-thm
-use Rattle.vwrite.proofs.judged.judged as g₃
-use Rattle.vwrite.proofs.judged.judged.Symbol as g₃-def
-use Rattle.vwrite.proofs.judged.judged.Symbol.{name as #g₃}
-use Rattle.vwrite.proofs.judged.judged.Met as g₃-thm
+use Rattle.outer_write.proofs.judged.judged as g₃
+use Rattle.outer_write.proofs.judged.judged.Symbol as g₃-def
+use Rattle.outer_write.proofs.judged.judged.Symbol.{name as #g₃}
+use Rattle.outer_write.proofs.judged.judged.Met as g₃-thm
 use Rattle.vwrite.proofs.vwrite_write.Key.{name as #f}
 use Rattle.vwrite.proofs.vwrite_write as f
 use Rattle.vwrite.proofs.vwrite_write.Statement as stated
@@ -274,4 +274,4 @@ vwrite-write-spec 𝓤 H 𝓜 𝓖 𝓡 =
     (meets 𝓤 H (𝓖 .A) (givenOf 𝓤 H 𝓜 𝓖) (𝓜 .mem) (𝓡 .run) (tablesOf 𝓤 H 𝓜 (tables 𝓤 H 𝓜 𝓡 code.env))
     (cited 𝓤 H (EarlyOf 𝓤 H (𝓖 .A) (𝓜 .mem) (𝓡 .run)) 𝓜 𝓡 code.env #g₁ g₁-def.routine code.calls-write·early·early-of (g₁-thm.met 𝓤 H 𝓜 𝓖 𝓡))
     (cited 𝓤 H (TallyOf 𝓤 H (𝓖 .A) (𝓜 .mem) (𝓡 .run)) 𝓜 𝓡 code.env #g₂ g₂-def.routine code.calls-write·early·tally-of (g₂-thm.met 𝓤 H 𝓜 𝓖 𝓡))
-    (cited 𝓤 H (Judged 𝓤 H (𝓖 .A) (𝓜 .mem) (𝓡 .run)) 𝓜 𝓡 code.env #g₃ g₃-def.routine code.calls-vwrite·judged·judged (g₃-thm.met 𝓤 H 𝓜 𝓖 𝓡)))
+    (cited 𝓤 H (Judged 𝓤 H (𝓖 .A) (𝓜 .mem) (𝓡 .run)) 𝓜 𝓡 code.env #g₃ g₃-def.routine code.calls-outer-write·judged·judged (g₃-thm.met 𝓤 H 𝓜 𝓖 𝓡)))

@@ -1,18 +1,10 @@
-use Rattle.file_table.specs.Table.{maxFiles}
-use Rattle.loops.specs.Marks.{marked}
-use Rattle.fat_sectors.specs.Fat.{freedOwner, freesRow}
 use mathlib.Core.Path.{sym, _∙_}
-use Rattle.vdisk.specs.OwnerLaws.{owner-is}
 use native.Mathlib.Omega.{arith}
+use Rattle.vdisk.specs.OwnerLaws.{owner-is}
+use Rattle.fat_sectors.specs.FatLaws.{markedOwner}
 use borrow.Author.Needs.{needs}
 use Rattle.fat_sectors.proofs.sectors.is_freed.Statement.{statement}
 use Rattle.fat_sectors.proofs.sectors.is_freed.Tie as tie
-
-mul-owner : tie.Need-mul-owner
-mul-owner c = search needs
-
-add-owner : tie.Need-add-owner
-add-owner c = search needs
 
 owner-requires : tie.Need-owner-requires
 owner-requires c κs = search needs
@@ -27,33 +19,31 @@ enum-known-j : tie.Need-enum-known-j
 enum-known-j c = search needs
 
 shared-slice-read-result : tie.Need-shared-slice-read-result
-shared-slice-read-result c = omega (arith, owner-is _ _ _ _ _ (sym (c .before .before .before .before .owner .ensures) ∙ c .before .before .j .given .1) .row, c .before .before .before .before .before .before .before .before .before .before .before .pre .0 .0 .few, c .before .before .before .before .before .before .before .before .before .before .before .pre .0 .0 .ids-starts)
+shared-slice-read-result c = omega (arith, owner-is _ _ _ _ _ (sym (c .before .before .before .before .owner .ensures) ∙ c .before .before .j .given .1) .row, c .before .before .before .before .before .before .before .before .pre .0 .1)
 
 enum-told-3 : tie.Need-enum-told-3
 enum-told-3 c = search needs
 
 returns : tie.Need-returns
-unfolding freedOwner
+unfolding markedOwner
 returns c = simp (sym (c .before .before .owner .ensures) ∙ c .enum-told .given .1)
 
 returns-2 : tie.Need-returns-2
-unfolding freedOwner
+unfolding markedOwner
 returns-2 c = simp (sym (c .before .before .owner .ensures) ∙ c .enum-told2 .given .1)
 
 returns-3 : tie.Need-returns-3
-unfolding freedOwner freesRow
-returns-3 c = let l = owner-is _ _ _ _ _ (sym (c .before .before .before .before .owner .ensures) ∙ c .before .before .j .given .1) .row in simp (sym (c .before .before .before .before .owner .ensures) ∙ c .before .before .j .given .1) (marked _ maxFiles 256 _ (c .before .before .before .before .before .before .before .before .before .before .before .pre .1) _ (omega (arith, l, c .before .before .before .before .before .before .before .before .before .before .before .pre .0 .0 .few, c .before .before .before .before .before .before .before .before .before .before .before .pre .0 .0 .ids-starts)))
+unfolding markedOwner
+returns-3 c = simp (sym (c .before .before .before .before .owner .ensures) ∙ c .before .before .j .given .1)
 
 returns-4 : tie.Need-returns-4
-unfolding freedOwner
+unfolding markedOwner
 returns-4 c = simp (sym (c .before .before .owner .ensures) ∙ c .enum-told3 .given .1)
 
 pub is-freed-spec : {M : Type 1} → statement M
 is-freed-spec =
     tie.close
     (tie.spec
-    mul-owner
-    add-owner
     owner-requires
     enum-told
     enum-told-2

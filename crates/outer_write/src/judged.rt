@@ -1,0 +1,57 @@
+// A written sector that needs more of the state: a directory is judged by columns, other data staged or refused, any other sector settled where the table's last file is enough.
+use crate::by_columns::by_columns;
+use crate::settled::settled;
+use crate::staged::staged;
+use file_table::VF;
+use state::w::W;
+use vdisk::drive::DATA_START;
+ghost use mathlib.Core.Bool.{_&&_};
+ghost use mathlib.Core.Path.{_≡_};
+ghost use lib.Dec.{leb};
+ghost use Rattle.files.specs.Files.{withIds};
+ghost use Rattle.table_calls.specs.Calls.{filesWritten};
+
+// Is a sector past the directories, in the data or behind it.
+pub fn is_data(lba: u32) -> bool
+    ensures { λ r. ⌜ r ≡ leb 541 lba ⌝ }
+{
+    lba >= DATA_START
+}
+
+// Is a sector one of the generated directories, in clusters 2 to 6.
+pub fn is_directory(lba: u32) -> bool
+    ensures { λ r. ⌜ r ≡ (leb 541 lba && leb lba 860) ⌝ }
+{
+    if lba < DATA_START {
+        return false;
+    }
+    if lba > 860 {
+        return false;
+    }
+    true
+}
+
+// A written sector is judged: the refusal number, 0 where it is taken.
+pub fn judged(
+    w: &mut W,
+    files: &mut [VF],
+    lba: u32,
+    shown: &[u8],
+    written: &[u8],
+    busy: bool,
+    fat: &[u16],
+    area: &mut [u8],
+) -> u8
+    ensures { λ r. ⌜ (r ≡ filesWritten lba (now (shown .entry)) (now (written .entry)) busy (now (fat .entry)) (now (area .entry)) (now (files .entry)) (now (w .entry)) .number)
+        × (now (w .exit) ≡ filesWritten lba (now (shown .entry)) (now (written .entry)) busy (now (fat .entry)) (now (area .entry)) (now (files .entry)) (now (w .entry)) .w)
+        × (now (files .exit) ≡ withIds (now (files .entry)) (filesWritten lba (now (shown .entry)) (now (written .entry)) busy (now (fat .entry)) (now (area .entry)) (now (files .entry)) (now (w .entry)) .ids))
+        × (now (area .exit) ≡ filesWritten lba (now (shown .entry)) (now (written .entry)) busy (now (fat .entry)) (now (area .entry)) (now (files .entry)) (now (w .entry)) .area) ⌝ }
+{
+    if is_directory(lba) {
+        return by_columns(w, files, lba, shown, written, busy, fat, area);
+    }
+    if is_data(lba) {
+        return staged(w, files, lba, shown, written, busy, fat, area);
+    }
+    settled(w, files, lba, shown, written, busy, fat, area)
+}

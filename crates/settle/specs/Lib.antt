@@ -1,6 +1,0 @@
--- Sectors that are settled by the last file.
-pub mod Settle
-pub mod Fates
-pub mod FatLaws
-pub mod RootLaws
-pub mod SettleLaws

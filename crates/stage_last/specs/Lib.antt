@@ -1,0 +1,8 @@
+-- Data sectors that the last file decides.
+pub mod SlotLaws
+pub mod StageLast
+pub mod Decided
+pub mod Told
+pub mod HereLaws
+pub mod LeavesLaws
+pub mod LastLaws
