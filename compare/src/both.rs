@@ -224,4 +224,10 @@ impl Both {
             self.counts.add(call, 0);
         }
     }
+    pub fn crc16(&mut self, c: u16, bytes: &[u8]) {
+        self.last = format!("crc16 {c} of {} bytes", bytes.len());
+        let ours = unsafe { vwrite_crc16(c, bytes.as_ptr(), bytes.len()) };
+        self.counts.add("crc16", 0);
+        self.equal("the answer", original::crc16(c, bytes), ours);
+    }
 }

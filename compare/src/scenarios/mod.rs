@@ -130,6 +130,8 @@ fn reads(r: &mut Rng, both: &mut Both) {
     both.root_rec(if r.one_in(3) { r.below(600) } else { slot });
     both.queries(r.one_in(2));
     both.layout(c, r.next() as u32);
+    let bytes: Vec<u8> = (0..r.below(600)).map(|_| r.next() as u8).collect();
+    both.crc16(r.next() as u16, &bytes);
     let size = match r.below(4) {
         0 => r.next() as u32,
         1 => r.range(0, 40_000),

@@ -5,3 +5,4 @@ pub mod Fields
 pub mod Stores
 pub mod Last
 pub mod Stage
+pub mod Turn

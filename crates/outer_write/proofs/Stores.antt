@@ -1,4 +1,4 @@
--- What the walks of `settled` and `staged` know of LastFile, Settled and StagedLast, and of the state's fields that they store.
+-- What the walks of `settled`, `staged` and `turned` know of LastFile, Settled, StagedLast, Asked and TurnedFile, and of the state's fields that they store.
 use Prim.Native.Nat.{ℕ, _<_, _^_}
 use mathlib.Core.Bool.{Bool}
 use mathlib.Core.Path.{_≡_, refl, sym, ap, _∙_, subst}
@@ -27,6 +27,9 @@ use Rattle.last_file.specs.declared.LastFile.{LastFile}
 use Rattle.settle_last.specs.Settle.{settledIn}
 use Rattle.settle_last.specs.declared.Settled.{Settled}
 use Rattle.stage_last.specs.declared.StagedLast.{StagedLast}
+use Rattle.turn_file.specs.TurnFile.{turnedIn}
+use Rattle.turn_file.specs.declared.Asked.{Asked}
+use Rattle.turn_file.specs.declared.TurnedFile.{TurnedFile}
 use Rattle.table_calls.specs.LastLaws.{stagedWith}
 use Rattle.records.proofs.Rec as R
 use Rattle.records.proofs.Rec.Laws as R′
@@ -40,6 +43,10 @@ use Rattle.settle_last.proofs.Settled as S
 use Rattle.settle_last.proofs.Settled.Laws as S′
 use Rattle.stage_last.proofs.StagedLast as Z
 use Rattle.stage_last.proofs.StagedLast.Laws as Z′
+use Rattle.turn_file.proofs.Asked as D
+use Rattle.turn_file.proofs.Asked.Laws as D′
+use Rattle.turn_file.proofs.TurnedFile as Y
+use Rattle.turn_file.proofs.TurnedFile.Laws as Y′
 use Rattle.outer_write.proofs.Session.{val}
 use Rattle.outer_write.proofs.Fields.{state-vals}
 
@@ -49,6 +56,15 @@ settled-val r = LL.val S.the-type S′.the-laws r
 
 abbrev pub staged-val : StagedLast → Val
 staged-val r = LL.val Z.the-type Z′.the-laws r
+
+abbrev pub last-val : LastFile → Val
+last-val f = LL.val L.the-type L′.the-laws f
+
+abbrev pub asked-val : Asked → Val
+asked-val a = LL.val D.the-type D′.the-laws a
+
+abbrev pub turned-val : TurnedFile → Val
+turned-val r = LL.val Y.the-type Y′.the-laws r
 
 abbrev pub records-val : List Rec → Val
 records-val xs = arrayVal (map (LL.tuple-val R.the-type R′.the-laws) (map (R.the-type .to) xs))
@@ -65,11 +81,26 @@ settled-is r v is = ap only (LL.tells S.the-type S′.the-laws r (v ∷ []) is)
 pub staged-is : (r : StagedLast) (v : Val) → Is Z.the-row r (v ∷ []) → v ≡ staged-val r
 staged-is r v is = ap only (LL.tells Z.the-type Z′.the-laws r (v ∷ []) is)
 
+pub last-is : (f : LastFile) (v : Val) → Is L.the-row f (v ∷ []) → v ≡ last-val f
+last-is f v is = ap only (LL.tells L.the-type L′.the-laws f (v ∷ []) is)
+
+pub asked-is : (a : Asked) (v : Val) → Is D.the-row a (v ∷ []) → v ≡ asked-val a
+asked-is a v is = ap only (LL.tells D.the-type D′.the-laws a (v ∷ []) is)
+
+pub turned-is : (r : TurnedFile) (v : Val) → Is Y.the-row r (v ∷ []) → v ≡ turned-val r
+turned-is r v is = ap only (LL.tells Y.the-type Y′.the-laws r (v ∷ []) is)
+
 pub settled-here : (r : Settled) (v : Val) → Is S.the-row r (v ∷ []) → Is S.the-row r (settled-val r ∷ [])
 settled-here r v is = subst (λ (vs : List Val). Is S.the-row r vs) (LL.tells S.the-type S′.the-laws r (v ∷ []) is) is
 
 pub staged-here : (r : StagedLast) (v : Val) → Is Z.the-row r (v ∷ []) → Is Z.the-row r (staged-val r ∷ [])
 staged-here r v is = subst (λ (vs : List Val). Is Z.the-row r vs) (LL.tells Z.the-type Z′.the-laws r (v ∷ []) is) is
+
+pub last-here : (f : LastFile) (v : Val) → Is L.the-row f (v ∷ []) → Is L.the-row f (last-val f ∷ [])
+last-here f v is = subst (λ (vs : List Val). Is L.the-row f vs) (LL.tells L.the-type L′.the-laws f (v ∷ []) is) is
+
+pub turned-here : (r : TurnedFile) (v : Val) → Is Y.the-row r (v ∷ []) → Is Y.the-row r (turned-val r ∷ [])
+turned-here r v is = subst (λ (vs : List Val). Is Y.the-row r vs) (LL.tells Y.the-type Y′.the-laws r (v ∷ []) is) is
 
 -- what whoever holds them knows
 pub number-settled : (r : Settled) (vs : List Val) → Is S.the-row r vs → r .no < 2 ^ 8
@@ -77,6 +108,9 @@ number-settled r vs is = LL.owed S.the-type S′.the-laws r vs is .1 .0 .1
 
 pub number-staged : (r : StagedLast) (vs : List Val) → Is Z.the-row r vs → r .no < 2 ^ 8
 number-staged r vs is = LL.owed Z.the-type Z′.the-laws r vs is .1 .0 .1
+
+pub number-turned : (r : TurnedFile) (vs : List Val) → Is Y.the-row r vs → r .no < 2 ^ 8
+number-turned r vs is = LL.owed Y.the-type Y′.the-laws r vs is .1 .0 .1
 
 -- where the fields lie, computed once here and not at each use
 pub boot-at : fieldOf T′.mir 2 ≡ some (tyInt w8, 2)
@@ -142,6 +176,12 @@ settled-holds h vs r us is is-r = let o = LL.owed T.the-type T′.the-laws h vs 
     LL.owes T.the-type T′.the-laws (settledIn h r)
     (o .0, (o .1 .0, (s .1 .1 .0, (o .1 .1 .1 .0, (s .1 .1 .1 .0, (o .1 .1 .1 .1 .1 .0, (o .1 .1 .1 .1 .1 .1 .0, (s .1 .1 .1 .1 .0, (o .1 .1 .1 .1 .1 .1 .1 .1 .0, (s .1 .1 .1 .1 .1 .0, (o .1 .1 .1 .1 .1 .1 .1 .1 .1 .1 .0, (o .1 .1 .1 .1 .1 .1 .1 .1 .1 .1 .1 .0, (o .1 .1 .1 .1 .1 .1 .1 .1 .1 .1 .1 .1 .0, (o .1 .1 .1 .1 .1 .1 .1 .1 .1 .1 .1 .1 .1 .0, (s .1 .1 .1 .1 .1 .1 .0, (o .1 .1 .1 .1 .1 .1 .1 .1 .1 .1 .1 .1 .1 .1 .1 .0, (o .1 .1 .1 .1 .1 .1 .1 .1 .1 .1 .1 .1 .1 .1 .1 .1 .0, (o .1 .1 .1 .1 .1 .1 .1 .1 .1 .1 .1 .1 .1 .1 .1 .1 .1 .0, (o .1 .1 .1 .1 .1 .1 .1 .1 .1 .1 .1 .1 .1 .1 .1 .1 .1 .1 .0, (o .1 .1 .1 .1 .1 .1 .1 .1 .1 .1 .1 .1 .1 .1 .1 .1 .1 .1 .1 .0, (o .1 .1 .1 .1 .1 .1 .1 .1 .1 .1 .1 .1 .1 .1 .1 .1 .1 .1 .1 .1 .0, (o .1 .1 .1 .1 .1 .1 .1 .1 .1 .1 .1 .1 .1 .1 .1 .1 .1 .1 .1 .1 .1 .0, (s .1 .1 .1 .1 .1 .1 .1 .0, (o .1 .1 .1 .1 .1 .1 .1 .1 .1 .1 .1 .1 .1 .1 .1 .1 .1 .1 .1 .1 .1 .1 .1 .0, tt))))))))))))))))))))))))
 
+pub turned-holds : (h : Ses) (vs : List Val) (r : TurnedFile) (us : List Val) → Is T.the-row h vs → Is Y.the-row r us → Is T.the-row (turnedIn h r) (val (turnedIn h r) ∷ [])
+unfolding withSession withLast withErr withN
+turned-holds h vs r us is is-r = let o = LL.owed T.the-type T′.the-laws h vs is in let s = LL.owed Y.the-type Y′.the-laws r us is-r in
+    LL.owes T.the-type T′.the-laws (turnedIn h r)
+    (o .0, (o .1 .0, (o .1 .1 .0, (o .1 .1 .1 .0, (o .1 .1 .1 .1 .0, (o .1 .1 .1 .1 .1 .0, (o .1 .1 .1 .1 .1 .1 .0, (s .1 .1 .1 .0, (o .1 .1 .1 .1 .1 .1 .1 .1 .0, (s .1 .1 .1 .1 .0, (o .1 .1 .1 .1 .1 .1 .1 .1 .1 .1 .0, (o .1 .1 .1 .1 .1 .1 .1 .1 .1 .1 .1 .0, (o .1 .1 .1 .1 .1 .1 .1 .1 .1 .1 .1 .1 .0, (o .1 .1 .1 .1 .1 .1 .1 .1 .1 .1 .1 .1 .1 .0, (s .1 .1 .1 .1 .1 .0, (o .1 .1 .1 .1 .1 .1 .1 .1 .1 .1 .1 .1 .1 .1 .1 .0, (o .1 .1 .1 .1 .1 .1 .1 .1 .1 .1 .1 .1 .1 .1 .1 .1 .0, (o .1 .1 .1 .1 .1 .1 .1 .1 .1 .1 .1 .1 .1 .1 .1 .1 .1 .0, (o .1 .1 .1 .1 .1 .1 .1 .1 .1 .1 .1 .1 .1 .1 .1 .1 .1 .1 .0, (o .1 .1 .1 .1 .1 .1 .1 .1 .1 .1 .1 .1 .1 .1 .1 .1 .1 .1 .1 .0, (o .1 .1 .1 .1 .1 .1 .1 .1 .1 .1 .1 .1 .1 .1 .1 .1 .1 .1 .1 .1 .0, (o .1 .1 .1 .1 .1 .1 .1 .1 .1 .1 .1 .1 .1 .1 .1 .1 .1 .1 .1 .1 .1 .0, (s .1 .1 .1 .1 .1 .1 .0, (o .1 .1 .1 .1 .1 .1 .1 .1 .1 .1 .1 .1 .1 .1 .1 .1 .1 .1 .1 .1 .1 .1 .1 .0, tt))))))))))))))))))))))))
+
 -- The staging slots, as a parameter or a result and as the state's field has them: the one is the other.
 abbrev pub SlotsAre : List St → Type 0
 SlotsAre xs = Is (Array (Q.the-field .row) 28) (map (Q.the-type .to) xs) (slots-val xs ∷ [])
@@ -203,3 +243,9 @@ module _ {M : Type 1} (𝓤 : URA M) (H : Heap 𝓤) (A : Atoms 𝓤) (W : Given
 
   pub slot-makes : Makes 𝓤 H A Q.the-row (Is Q.the-row)
   slot-makes = LL.makes Q.the-type Q′.the-plain 𝓤 H A
+
+  pub asked-typed : (a : Asked) (v : Val) → Is D.the-row a (v ∷ []) → Holds (hasTy D′.mir v) × WT v
+  asked-typed a v is = LL.lawful D.the-type D′.the-laws 𝓤 H A W .typed a (v ∷ []) is .0
+
+  pub turned-typed : (r : TurnedFile) (v : Val) → Is Y.the-row r (v ∷ []) → Holds (hasTy Y′.mir v) × WT v
+  turned-typed r v is = LL.lawful Y.the-type Y′.the-laws 𝓤 H A W .typed r (v ∷ []) is .0

@@ -1,7 +1,7 @@
-// A written sector that needs more of the state: a directory is judged by columns, other data staged or refused, any other sector settled where the table's last file is enough.
-use crate::by_columns::by_columns;
+// A written sector that needs more of the state: a directory is judged with the file that it asks for, other data staged or refused, any other sector settled where the table's last file is enough.
 use crate::settled::settled;
 use crate::staged::staged;
+use crate::turned::turned;
 use file_table::VF;
 use state::w::W;
 use vdisk::drive::DATA_START;
@@ -11,7 +11,7 @@ ghost use lib.Dec.{leb};
 ghost use Rattle.files.specs.Files.{withIds};
 ghost use Rattle.table_calls.specs.Calls.{filesWritten};
 
-// Is a sector past the directories, in the data or behind it.
+// Is a sector in the data or behind it.
 pub fn is_data(lba: u32) -> bool
     ensures { λ r. ⌜ r ≡ leb 541 lba ⌝ }
 {
@@ -48,7 +48,7 @@ pub fn judged(
         × (now (area .exit) ≡ filesWritten lba (now (shown .entry)) (now (written .entry)) busy (now (fat .entry)) (now (area .entry)) (now (files .entry)) (now (w .entry)) .area) ⌝ }
 {
     if is_directory(lba) {
-        return by_columns(w, files, lba, shown, written, busy, fat, area);
+        return turned(w, files, lba, shown, written, busy, fat, area);
     }
     if is_data(lba) {
         return staged(w, files, lba, shown, written, busy, fat, area);

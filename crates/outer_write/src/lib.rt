@@ -3,3 +3,4 @@ pub mod by_columns;
 pub mod judged;
 pub mod settled;
 pub mod staged;
+pub mod turned;

@@ -1,9 +1,9 @@
--- What the last file of the table settles is what is judged of the files.
+-- What the last file of the table settles, or the file that a directory sector asks for, is what is judged of the files.
 use Prim.Native.Nat.{ℕ}
 use mathlib.Core.Bool.{Bool, true}
 use mathlib.Core.List.{List, map}
 use mathlib.Core.Path.{_≡_, sym, ap, _∙_}
-use lib.ListN.{set}
+use lib.ListN.{length, length-map, set}
 use Rattle.file_table.specs.declared.VF.{VF}
 use Rattle.files.specs.Files.{idOf, dirSlotOf, startOf, sizeOf, withIds}
 use Rattle.files.specs.FilesLaws.{same-ids}
@@ -17,6 +17,8 @@ use Rattle.settle_last.specs.Settle.{SettlesAt, settledIn}
 use Rattle.settle_last.specs.declared.Settled.{Settled}
 use Rattle.stage_last.specs.StageLast.{StagesAt}
 use Rattle.stage_last.specs.declared.StagedLast.{StagedLast}
+use Rattle.turn_file.specs.TurnFile.{TurnsAt, fileAsked, askedBy, withRow, turnedIn}
+use Rattle.turn_file.specs.declared.TurnedFile.{TurnedFile}
 use Rattle.table_walks.specs.Walks.{lastOf, notedFiles}
 use Rattle.table_walks.specs.WalkLaws.{noted-files}
 use Rattle.table_calls.specs.Calls.{filesWrite}
@@ -45,3 +47,9 @@ module _ (lba : ℕ) (shown written : List ℕ) (busy : Bool) (fat area : List �
   staged-by-last f r st zs after e at on s m =
       let l = at .1 on (map idOf files) (map dirSlotOf files) (map startOf files) (map sizeOf files) (sym e) (whole-columns lba shown written busy fat area files w) in
       (l .answer, ap (λ (ys : List St). stagedWith w ys r) s ∙ l .state, m ∙ noted-files (r .marks) written files ∙ ap (withIds files) (l .table), l .medium)
+
+  pub turned-by-file : (f : LastFile) (r : TurnedFile) (zs : List VF) → f ≡ fileAsked (askedBy lba shown written) (map idOf files) (map dirSlotOf files) (map startOf files) (map sizeOf files)
+      → TurnsAt w f (length files) lba shown written fat area r → r .settled ≡ true → zs ≡ withIds files (withRow (map idOf files) (f .n) (r .id)) → Leaves (r .no) (turnedIn w r) zs area
+  turned-by-file f r zs e at on m =
+      let l = at on busy (map idOf files) (map dirSlotOf files) (map startOf files) (map sizeOf files) (sym e) (whole-columns lba shown written busy fat area files w) (length-map files idOf) in
+      (l .answer, l .state, m ∙ ap (withIds files) (l .table), l .medium)

@@ -5,3 +5,4 @@ pub mod Owner
 pub mod DriveLaws
 pub mod IdLaws
 pub mod OwnerLaws
+pub mod RisingLaws

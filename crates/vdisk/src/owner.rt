@@ -4,7 +4,9 @@ use crate::drive::nclus;
 ghost use mathlib.Core.Path.{_≡_};
 ghost use mathlib.Core.Bool.{true};
 ghost use Prim.Native.Nat.{ℕ, _≤_};
+ghost use lib.Dec.{ltb};
 ghost use lib.ListN.{length};
+ghost use Rattle.loops.specs.Loops.{pick};
 ghost use Rattle.vdisk.specs.Owner.{upTo, ownerAt, ownerOf, rises};
 
 // Reserved entries, a fixed cluster, the file of a row, or nobody.
@@ -15,18 +17,24 @@ pub enum Own {
     Free,
 }
 
-// Do the starts rise strictly.
+// 1 where a start is not below the next.
+fn falls_at(start: u16, next: u16) -> usize
+    ensures { λ r. ⌜ r ≡ pick (ltb start next) 0 1 ⌝ }
+{
+    if start < next { 0 } else { 1 }
+}
+
+// Do the starts rise strictly. No early exit, so that the compiler compares many at once.
 pub fn rising(starts: &[u16]) -> bool
     ensures { λ r. ⌜ r ≡ rises (now (starts .entry)) ⌝ }
 {
+    let mut falls = 0;
     let mut j = 0;
     while j + 1 < starts.len() {
-        if starts[j + 1] <= starts[j] {
-            return false;
-        }
+        falls = falls + falls_at(starts[j], starts[j + 1]);
         j += 1;
     }
-    true
+    falls == 0
 }
 
 // One past the last file that starts at or before `c`, by rows from the end.

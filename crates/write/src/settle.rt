@@ -28,28 +28,26 @@ pub fn error_of(n: u8) -> u8
     E_REFUSED
 }
 
-// A taken sector: the last time, the taken count, the session.
-fn taken(mut w: W, changed: bool) -> W
-    ensures { λ r. ⌜ r ≡ takenState w changed ⌝ }
+// A taken sector: the last time, the taken count, the session. A refused one: the error, its count, and the place unless it was put off. The
+// state is changed in place, since each call with it would copy it.
+pub fn settled(lba: u32, o: Judged) -> W
+    ensures { λ r. ⌜ r ≡ pick (eqb (o .no) 0) (takenState (o .w) (o .changed)) (refusedState (o .w) lba (o .no)) ⌝ }
 {
-    let last = num::max_u64(w.now_ms, 1);
-    let ok = num::wrapping_next_u32(w.n.ok);
-    w.last = last;
-    w.n.ok = ok;
-    if changed {
-        w.session = true;
+    let mut w = o.w;
+    if o.no == 0 {
+        let last = num::max_u64(w.now_ms, 1);
+        let ok = num::wrapping_next_u32(w.n.ok);
+        w.last = last;
+        w.n.ok = ok;
+        if o.changed {
+            w.session = true;
+            return w;
+        }
         return w;
     }
-    w
-}
-
-// A refused one: the error, its count, and the place unless it was put off.
-fn refused(mut w: W, lba: u32, n: u8) -> W
-    ensures { λ r. ⌜ r ≡ refusedState w lba n ⌝ }
-{
-    let err = error_of(n);
+    let err = error_of(o.no);
     w.err = err;
-    if n == 19 {
+    if o.no == 19 {
         let busy = num::wrapping_next_u32(w.n.busy);
         w.n.busy = busy;
         return w;
@@ -58,13 +56,4 @@ fn refused(mut w: W, lba: u32, n: u8) -> W
     w.n.refused = count;
     w.n.last_refused = lba;
     w
-}
-
-pub fn settled(lba: u32, o: Judged) -> W
-    ensures { λ r. ⌜ r ≡ pick (eqb (o .no) 0) (takenState (o .w) (o .changed)) (refusedState (o .w) lba (o .no)) ⌝ }
-{
-    if o.no == 0 {
-        return taken(o.w, o.changed);
-    }
-    refused(o.w, lba, o.no)
 }

@@ -34,10 +34,10 @@ use Rattle.outer_write.proofs.judged.is_directory as g₁
 use Rattle.outer_write.proofs.judged.is_directory.Symbol as g₁-def
 use Rattle.outer_write.proofs.judged.is_directory.Symbol.{name as #g₁}
 use Rattle.outer_write.proofs.judged.is_directory.Met as g₁-thm
-use Rattle.outer_write.proofs.by_columns.by_columns as g₂
-use Rattle.outer_write.proofs.by_columns.by_columns.Symbol as g₂-def
-use Rattle.outer_write.proofs.by_columns.by_columns.Symbol.{name as #g₂}
-use Rattle.outer_write.proofs.by_columns.by_columns.Met as g₂-thm
+use Rattle.outer_write.proofs.turned.turned as g₂
+use Rattle.outer_write.proofs.turned.turned.Symbol as g₂-def
+use Rattle.outer_write.proofs.turned.turned.Symbol.{name as #g₂}
+use Rattle.outer_write.proofs.turned.turned.Met as g₂-thm
 use Rattle.outer_write.proofs.judged.is_data as g₃
 use Rattle.outer_write.proofs.judged.is_data.Symbol as g₃-def
 use Rattle.outer_write.proofs.judged.is_data.Symbol.{name as #g₃}
@@ -63,8 +63,8 @@ module _ {M : Type 1} (𝓤 : URA M) (H : Heap 𝓤) (A : Atoms 𝓤) (at-mem : 
   abbrev IsDirectory : Contract 𝓤
   IsDirectory = tripleOf 𝓤 H A g₁.signature (g₁.spec 𝓤 H A at-mem run)
 
-  abbrev ByColumns : Contract 𝓤
-  ByColumns = tripleOf 𝓤 H A g₂.signature (g₂.spec 𝓤 H A at-mem run)
+  abbrev Turned : Contract 𝓤
+  Turned = tripleOf 𝓤 H A g₂.signature (g₂.spec 𝓤 H A at-mem run)
 
   abbrev IsData : Contract 𝓤
   IsData = tripleOf 𝓤 H A g₃.signature (g₃.spec 𝓤 H A at-mem run)
@@ -129,11 +129,11 @@ module _ {M : Type 1} (𝓤 : URA M) (H : Heap 𝓤) (A : Atoms 𝓤) (W : Given
   goes-directory : ent 𝓤 (emp 𝓤) (IsDirectory 𝓤 H A at-mem run .pre to-directory)
   goes-directory = qed W [] ∵ nothing ! $ owned ! u32 (Is u32) (uint-makes 𝓤 H A W w32) lba _ (refl, lba-fits) $ fjoin ! $ nothing ! $ join ! $ nothing ! $ move ! (1 ∷ 0 ∷ []) $ done !
 
-  abbrev to-columns : ByColumns 𝓤 H A at-mem run .Ghost
-  to-columns = ((κs, qs, tt, x, at), tt)
+  abbrev to-turned : Turned 𝓤 H A at-mem run .Ghost
+  to-turned = ((κs, qs, tt, x, at), tt)
 
-  goes-columns : ent 𝓤 (⋆ 𝓤 H A ((‵ (flft κ0 q0) ⊛ ‵ (flft κ1 q1) ⊛ ‵ (flft κ2 q2) ⊛ ‵ (flft κ3 q3) ⊛ ‵ (flft κ4 q4) ⊛ ‵ (flft κ5 q5) ⊛ ‵ ftrue) ∷ ‵ (owns (MutRef (named 0) κ0 T.the-row ∷ MutSlice (named 1) κ1 F.the-row ∷ u32 ∷ ShrSlice (named 2) κ2 u8 ∷ ShrSlice (named 3) κ3 u8 ∷ bool ∷ ShrSlice (named 4) κ4 u16 ∷ MutSlice (named 5) κ5 u8 ∷ []) x at) ∷ [])) (ByColumns 𝓤 H A at-mem run .pre to-columns)
-  goes-columns = qed W ((‵ (flft κ0 q0) ⊛ ‵ (flft κ1 q1) ⊛ ‵ (flft κ2 q2) ⊛ ‵ (flft κ3 q3) ⊛ ‵ (flft κ4 q4) ⊛ ‵ (flft κ5 q5) ⊛ ‵ ftrue) ∷ ‵ (owns (MutRef (named 0) κ0 T.the-row ∷ MutSlice (named 1) κ1 F.the-row ∷ u32 ∷ ShrSlice (named 2) κ2 u8 ∷ ShrSlice (named 3) κ3 u8 ∷ bool ∷ ShrSlice (named 4) κ4 u16 ∷ MutSlice (named 5) κ5 u8 ∷ []) x at) ∷ []) ∵ join ! $ nothing ! $ move ! (1 ∷ 0 ∷ []) $ done !
+  goes-turned : ent 𝓤 (⋆ 𝓤 H A ((‵ (flft κ0 q0) ⊛ ‵ (flft κ1 q1) ⊛ ‵ (flft κ2 q2) ⊛ ‵ (flft κ3 q3) ⊛ ‵ (flft κ4 q4) ⊛ ‵ (flft κ5 q5) ⊛ ‵ ftrue) ∷ ‵ (owns (MutRef (named 0) κ0 T.the-row ∷ MutSlice (named 1) κ1 F.the-row ∷ u32 ∷ ShrSlice (named 2) κ2 u8 ∷ ShrSlice (named 3) κ3 u8 ∷ bool ∷ ShrSlice (named 4) κ4 u16 ∷ MutSlice (named 5) κ5 u8 ∷ []) x at) ∷ [])) (Turned 𝓤 H A at-mem run .pre to-turned)
+  goes-turned = qed W ((‵ (flft κ0 q0) ⊛ ‵ (flft κ1 q1) ⊛ ‵ (flft κ2 q2) ⊛ ‵ (flft κ3 q3) ⊛ ‵ (flft κ4 q4) ⊛ ‵ (flft κ5 q5) ⊛ ‵ ftrue) ∷ ‵ (owns (MutRef (named 0) κ0 T.the-row ∷ MutSlice (named 1) κ1 F.the-row ∷ u32 ∷ ShrSlice (named 2) κ2 u8 ∷ ShrSlice (named 3) κ3 u8 ∷ bool ∷ ShrSlice (named 4) κ4 u16 ∷ MutSlice (named 5) κ5 u8 ∷ []) x at) ∷ []) ∵ join ! $ nothing ! $ move ! (1 ∷ 0 ∷ []) $ done !
 
   abbrev to-data : IsData 𝓤 H A at-mem run .Ghost
   to-data = ((tt, tt, tt, (lba, tt), (vint w32 lba ∷ [], tt)), tt)
@@ -153,7 +153,7 @@ module _ {M : Type 1} (𝓤 : URA M) (H : Heap 𝓤) (A : Atoms 𝓤) (W : Given
   goes-settled : ent 𝓤 (⋆ 𝓤 H A ((‵ (flft κ0 q0) ⊛ ‵ (flft κ1 q1) ⊛ ‵ (flft κ2 q2) ⊛ ‵ (flft κ3 q3) ⊛ ‵ (flft κ4 q4) ⊛ ‵ (flft κ5 q5) ⊛ ‵ ftrue) ∷ ‵ (owns (MutRef (named 0) κ0 T.the-row ∷ MutSlice (named 1) κ1 F.the-row ∷ u32 ∷ ShrSlice (named 2) κ2 u8 ∷ ShrSlice (named 3) κ3 u8 ∷ bool ∷ ShrSlice (named 4) κ4 u16 ∷ MutSlice (named 5) κ5 u8 ∷ []) x at) ∷ [])) (Settled 𝓤 H A at-mem run .pre to-settled)
   goes-settled = qed W ((‵ (flft κ0 q0) ⊛ ‵ (flft κ1 q1) ⊛ ‵ (flft κ2 q2) ⊛ ‵ (flft κ3 q3) ⊛ ‵ (flft κ4 q4) ⊛ ‵ (flft κ5 q5) ⊛ ‵ ftrue) ∷ ‵ (owns (MutRef (named 0) κ0 T.the-row ∷ MutSlice (named 1) κ1 F.the-row ∷ u32 ∷ ShrSlice (named 2) κ2 u8 ∷ ShrSlice (named 3) κ3 u8 ∷ bool ∷ ShrSlice (named 4) κ4 u16 ∷ MutSlice (named 5) κ5 u8 ∷ []) x at) ∷ []) ∵ join ! $ nothing ! $ move ! (1 ∷ 0 ∷ []) $ done !
 
-  module _ (C : Calls 𝓤 H) (Λ : Loops 𝓤 H) (fm : FmC 𝓤 H (W .laws) C) (k₁ : Triple 𝓤 (C #g₁) (IsDirectory 𝓤 H A at-mem run)) (k₂ : Triple 𝓤 (C #g₂) (ByColumns 𝓤 H A at-mem run)) (k₃ : Triple 𝓤 (C #g₃) (IsData 𝓤 H A at-mem run)) (k₄ : Triple 𝓤 (C #g₄) (Staged 𝓤 H A at-mem run)) (k₅ : Triple 𝓤 (C #g₅) (Settled 𝓤 H A at-mem run)) where
+  module _ (C : Calls 𝓤 H) (Λ : Loops 𝓤 H) (fm : FmC 𝓤 H (W .laws) C) (k₁ : Triple 𝓤 (C #g₁) (IsDirectory 𝓤 H A at-mem run)) (k₂ : Triple 𝓤 (C #g₂) (Turned 𝓤 H A at-mem run)) (k₃ : Triple 𝓤 (C #g₃) (IsData 𝓤 H A at-mem run)) (k₄ : Triple 𝓤 (C #g₄) (Staged 𝓤 H A at-mem run)) (k₅ : Triple 𝓤 (C #g₅) (Settled 𝓤 H A at-mem run)) where
     module _ (l0 l1 l2 l3 l4 l5 l6 l7 l8 l9 l10 l11 l12 l13 l14 l15 l16 l17 l18 l19 l20 l21 l22 l23 l24 l25 : ℕ) where
       abbrev En : Env 𝓤 H
       En = (tyInt w8, l0) ∷ (w-ty, l1) ∷ (files-ty, l2) ∷ (tyInt w32, l3) ∷ (sliceTy (tyRef (named 2) imm (tyInt w8)), l4) ∷ (sliceTy (tyRef (named 3) imm (tyInt w8)), l5) ∷ (tyBool, l6) ∷ (sliceTy (tyRef (named 4) imm (tyInt w16)), l7) ∷ (sliceTy (tyRef (named 5) mut (tyInt w8)), l8) ∷ (tyBool, l9) ∷ (tyRef erased mut (pointee (T.the-row .written)), l10) ∷ (tyRef erased mut file-ty, l11) ∷ (sliceTy (tyRef erased mut file-ty), l12) ∷ (tyRef erased mut (tyInt w8), l13) ∷ (sliceTy (tyRef erased mut (tyInt w8)), l14) ∷ (tyBool, l15) ∷ (tyRef erased mut (pointee (T.the-row .written)), l16) ∷ (tyRef erased mut file-ty, l17) ∷ (sliceTy (tyRef erased mut file-ty), l18) ∷ (tyRef erased mut (tyInt w8), l19) ∷ (sliceTy (tyRef erased mut (tyInt w8)), l20) ∷ (tyRef erased mut (pointee (T.the-row .written)), l21) ∷ (tyRef erased mut file-ty, l22) ∷ (sliceTy (tyRef erased mut file-ty), l23) ∷ (tyRef erased mut (tyInt w8), l24) ∷ (sliceTy (tyRef erased mut (tyInt w8)), l25) ∷ []
@@ -215,15 +215,15 @@ module _ {M : Type 1} (𝓤 : URA M) (H : Heap 𝓤) (A : Atoms 𝓤) (W : Given
       directory : (d : Bool) → Sq W ((‵ (flft κ0 q0) ⊛ ‵ (flft κ1 q1) ⊛ ‵ (flft κ2 q2) ⊛ ‵ (flft κ3 q3) ⊛ ‵ (flft κ4 q4) ⊛ ‵ (flft κ5 q5) ⊛ ‵ ftrue) ∷ ‵ (owns (MutRef (named 0) κ0 T.the-row ∷ MutSlice (named 1) κ1 F.the-row ∷ u32 ∷ ShrSlice (named 2) κ2 u8 ∷ ShrSlice (named 3) κ3 u8 ∷ bool ∷ ShrSlice (named 4) κ4 u16 ∷ MutSlice (named 5) κ5 u8 ∷ []) x at) ∷ ‵ (froom (sliceTy (tyRef erased mut (tyInt w8))) l25 0) ∷ ‵ (fdies (sliceTy (tyRef erased mut (tyInt w8))) l25) ∷ ‵ (froom (tyRef erased mut (tyInt w8)) l24 0) ∷ ‵ (fdies (tyRef erased mut (tyInt w8)) l24) ∷ ‵ (froom (sliceTy (tyRef erased mut file-ty)) l23 0) ∷ ‵ (fdies (sliceTy (tyRef erased mut file-ty)) l23) ∷ ‵ (froom (tyRef erased mut file-ty) l22 0) ∷ ‵ (fdies (tyRef erased mut file-ty) l22) ∷ ‵ (froom (tyRef erased mut (pointee (T.the-row .written))) l21 0) ∷ ‵ (fdies (tyRef erased mut (pointee (T.the-row .written))) l21) ∷ ‵ (froom (sliceTy (tyRef erased mut (tyInt w8))) l20 0) ∷ ‵ (fdies (sliceTy (tyRef erased mut (tyInt w8))) l20) ∷ ‵ (froom (tyRef erased mut (tyInt w8)) l19 0) ∷ ‵ (fdies (tyRef erased mut (tyInt w8)) l19) ∷ ‵ (froom (sliceTy (tyRef erased mut file-ty)) l18 0) ∷ ‵ (fdies (sliceTy (tyRef erased mut file-ty)) l18) ∷ ‵ (froom (tyRef erased mut file-ty) l17 0) ∷ ‵ (fdies (tyRef erased mut file-ty) l17) ∷ ‵ (froom (tyRef erased mut (pointee (T.the-row .written))) l16 0) ∷ ‵ (fdies (tyRef erased mut (pointee (T.the-row .written))) l16) ∷ ‵ (froom (tyBool) l15 0) ∷ ‵ (fdies (tyBool) l15) ∷ ‵ (froom (sliceTy (tyRef erased mut (tyInt w8))) l14 0) ∷ ‵ (fdies (sliceTy (tyRef erased mut (tyInt w8))) l14) ∷ ‵ (froom (tyRef erased mut (tyInt w8)) l13 0) ∷ ‵ (fdies (tyRef erased mut (tyInt w8)) l13) ∷ ‵ (froom (sliceTy (tyRef erased mut file-ty)) l12 0) ∷ ‵ (fdies (sliceTy (tyRef erased mut file-ty)) l12) ∷ ‵ (froom (tyRef erased mut file-ty) l11 0) ∷ ‵ (fdies (tyRef erased mut file-ty) l11) ∷ ‵ (froom (tyRef erased mut (pointee (T.the-row .written))) l10 0) ∷ ‵ (fdies (tyRef erased mut (pointee (T.the-row .written))) l10) ∷ ‵ (fcell fullShare (tyBool) l9 0 (vbool d)) ∷ ‵ (fdies (tyBool) l9) ∷ ‵ (fcell fullShare (sliceTy (tyRef (named 5) mut (tyInt w8))) l8 0 (sliceVal (area .ptr) (length (area .now)))) ∷ ‵ (fdies (sliceTy (tyRef (named 5) mut (tyInt w8))) l8) ∷ ‵ (fcell fullShare (sliceTy (tyRef (named 4) imm (tyInt w16))) l7 0 (sliceVal (fat .ptr) (length (fat .now)))) ∷ ‵ (fdies (sliceTy (tyRef (named 4) imm (tyInt w16))) l7) ∷ ‵ (fcell fullShare (tyBool) l6 0 (vbool busy)) ∷ ‵ (fdies (tyBool) l6) ∷ ‵ (fcell fullShare (sliceTy (tyRef (named 3) imm (tyInt w8))) l5 0 (sliceVal (written .ptr) (length (written .now)))) ∷ ‵ (fdies (sliceTy (tyRef (named 3) imm (tyInt w8))) l5) ∷ ‵ (fcell fullShare (sliceTy (tyRef (named 2) imm (tyInt w8))) l4 0 (sliceVal (shown .ptr) (length (shown .now)))) ∷ ‵ (fdies (sliceTy (tyRef (named 2) imm (tyInt w8))) l4) ∷ ‵ (fcell fullShare (tyInt w32) l3 0 (vint w32 lba)) ∷ ‵ (fdies (tyInt w32) l3) ∷ ‵ (fcell fullShare (files-ty) l2 0 (sliceVal (files .ptr) (length (files .now)))) ∷ ‵ (fdies (files-ty) l2) ∷ ‵ (fcell fullShare (w-ty) l1 0 (vptr b o)) ∷ ‵ (fdies (w-ty) l1) ∷ ‵ (froom (tyInt w8) l0 0) ∷ ‵ (fdies (tyInt w8) l0) ∷ []) (runs C Λ En t-2 (atRet En Post))
       directory d =
           first ! $ branches ! (load ! (from ! (stop !)) (look ! (2 + p 9) refl))
-          -- it is: all is passed on to be judged by columns
+          -- it is: all is passed on to be turned
           (λ on.
           assigns ! (addr ! (from ! (hop ! (look ! (2 + p 1) refl) (stop !)))) (from ! (stop !)) (init ! (2 + p 10) refl (tt, tt)) $
           assigns ! (addr ! (from ! (fld ! refl (hop ! (look-in ! (2 + p 2) (sub ! 0 refl (whole !))) (stop !))))) (from ! (stop !)) (init ! (2 + p 11) refl (tt, tt)) $
           assigns ! (agg ! (and-then ! (load ! (from ! (stop !)) (look ! (2 + p 11) refl)) (and-then ! (load ! (from ! (fld ! refl (stop !))) (look-in ! (2 + p 2) (sub ! 1 refl (whole !)))) (no-more !)))) (from ! (stop !)) (init ! (2 + p 12) refl (tt, (tt, (record { fits = files-room .0 }, tt)))) $
           assigns ! (addr ! (from ! (fld ! refl (hop ! (look-in ! (2 + p 8) (sub ! 0 refl (whole !))) (stop !))))) (from ! (stop !)) (init ! (2 + p 13) refl (tt, tt)) $
           assigns ! (agg ! (and-then ! (load ! (from ! (stop !)) (look ! (2 + p 13) refl)) (and-then ! (load ! (from ! (fld ! refl (stop !))) (look-in ! (2 + p 8) (sub ! 1 refl (whole !)))) (no-more !)))) (from ! (stop !)) (init ! (2 + p 14) refl (tt, (tt, (record { fits = area-room .0 }, tt)))) $
-          use2 W (raw (ByColumns 𝓤 H A at-mem run .pre to-columns)) goes-columns $
-          calls-at ! fm (ByColumns 𝓤 H A at-mem run) k₂ to-columns (and-then ! (load ! (from ! (stop !)) (look ! (1 + p 10) refl)) (and-then ! (load ! (from ! (stop !)) (look ! (1 + p 12) refl)) (and-then ! (load ! (from ! (stop !)) (look ! (1 + p 3) refl)) (and-then ! (load ! (from ! (stop !)) (look ! (1 + p 4) refl)) (and-then ! (load ! (from ! (stop !)) (look ! (1 + p 5) refl)) (and-then ! (load ! (from ! (stop !)) (look ! (1 + p 6) refl)) (and-then ! (load ! (from ! (stop !)) (look ! (1 + p 7) refl)) (and-then ! (load ! (from ! (stop !)) (look ! (1 + p 14) refl)) (no-more !))))))))) (λ v₂.
+          use2 W (raw (Turned 𝓤 H A at-mem run .pre to-turned)) goes-turned $
+          calls-at ! fm (Turned 𝓤 H A at-mem run) k₂ to-turned (and-then ! (load ! (from ! (stop !)) (look ! (1 + p 10) refl)) (and-then ! (load ! (from ! (stop !)) (look ! (1 + p 12) refl)) (and-then ! (load ! (from ! (stop !)) (look ! (1 + p 3) refl)) (and-then ! (load ! (from ! (stop !)) (look ! (1 + p 4) refl)) (and-then ! (load ! (from ! (stop !)) (look ! (1 + p 5) refl)) (and-then ! (load ! (from ! (stop !)) (look ! (1 + p 6) refl)) (and-then ! (load ! (from ! (stop !)) (look ! (1 + p 7) refl)) (and-then ! (load ! (from ! (stop !)) (look ! (1 + p 14) refl)) (no-more !))))))))) (λ v₂.
           answered ! tt g₂.ended (g₂.clauses 𝓤 H A at-mem run) κs qs tt x at tt v₂ (‵ (flft κ0 q0) ⊛ ‵ (flft κ1 q1) ⊛ ‵ (flft κ2 q2) ⊛ ‵ (flft κ3 q3) ⊛ ‵ (flft κ4 q4) ⊛ ‵ (flft κ5 q5) ⊛ ‵ ftrue) (id⊢ 𝓤 _) (λ n ws.
           heard ! (Left n (ws .0) (ws .1 .0) (ws .1 .1 .1 .1 .1 .1 .1 .0)) (λ e₂. peeks ! u8 (Is u8) (shows 𝓤 H A u8) n (v₂ ∷ []) (λ is₂.
           -- [the number; the last values; the tokens; the locals]
@@ -252,7 +252,7 @@ module _ {M : Type 1} (𝓤 : URA M) (H : Heap 𝓤) (A : Atoms 𝓤) (W : Given
         pass1 ! (init ! (p 1) refl (tt, tt)) $ pass1 ! (init ! (p 2) refl (tt, (tt, (record { fits = files-room .0 }, tt)))) $ pass1 ! (init ! (p 3) refl (tt, record { fits = lba-fits })) $ pass1 ! (init ! (p 4) refl (tt, (tt, (record { fits = shown-room .0 }, tt)))) $ pass1 ! (init ! (p 5) refl (tt, (tt, (record { fits = written-room .0 }, tt)))) $ pass1 ! (init ! (p 6) refl (tt, tt)) $ pass1 ! (init ! (p 7) refl (tt, (tt, (record { fits = fat-room .0 }, tt)))) $ pass1 ! (init ! (p 8) refl (tt, (tt, (record { fits = area-room .0 }, tt)))) $ pass0 ! $
         by ! (starts (bs .0) (bs .1 .0) (bs .1 .1 .0) (bs .1 .1 .1 .0) (bs .1 .1 .1 .1 .0) (bs .1 .1 .1 .1 .1 .0) (bs .1 .1 .1 .1 .1 .1 .0) (bs .1 .1 .1 .1 .1 .1 .1 .0) (bs .1 .1 .1 .1 .1 .1 .1 .1 .0) (bs .1 .1 .1 .1 .1 .1 .1 .1 .1 .0) (bs .1 .1 .1 .1 .1 .1 .1 .1 .1 .1 .0) (bs .1 .1 .1 .1 .1 .1 .1 .1 .1 .1 .1 .0) (bs .1 .1 .1 .1 .1 .1 .1 .1 .1 .1 .1 .1 .0) (bs .1 .1 .1 .1 .1 .1 .1 .1 .1 .1 .1 .1 .1 .0) (bs .1 .1 .1 .1 .1 .1 .1 .1 .1 .1 .1 .1 .1 .1 .0) (bs .1 .1 .1 .1 .1 .1 .1 .1 .1 .1 .1 .1 .1 .1 .1 .0) (bs .1 .1 .1 .1 .1 .1 .1 .1 .1 .1 .1 .1 .1 .1 .1 .1 .0) (bs .1 .1 .1 .1 .1 .1 .1 .1 .1 .1 .1 .1 .1 .1 .1 .1 .1 .0) (bs .1 .1 .1 .1 .1 .1 .1 .1 .1 .1 .1 .1 .1 .1 .1 .1 .1 .1 .0) (bs .1 .1 .1 .1 .1 .1 .1 .1 .1 .1 .1 .1 .1 .1 .1 .1 .1 .1 .1 .0) (bs .1 .1 .1 .1 .1 .1 .1 .1 .1 .1 .1 .1 .1 .1 .1 .1 .1 .1 .1 .1 .0) (bs .1 .1 .1 .1 .1 .1 .1 .1 .1 .1 .1 .1 .1 .1 .1 .1 .1 .1 .1 .1 .1 .0) (bs .1 .1 .1 .1 .1 .1 .1 .1 .1 .1 .1 .1 .1 .1 .1 .1 .1 .1 .1 .1 .1 .1 .0) (bs .1 .1 .1 .1 .1 .1 .1 .1 .1 .1 .1 .1 .1 .1 .1 .1 .1 .1 .1 .1 .1 .1 .1 .0) (bs .1 .1 .1 .1 .1 .1 .1 .1 .1 .1 .1 .1 .1 .1 .1 .1 .1 .1 .1 .1 .1 .1 .1 .1 .0) (bs .1 .1 .1 .1 .1 .1 .1 .1 .1 .1 .1 .1 .1 .1 .1 .1 .1 .1 .1 .1 .1 .1 .1 .1 .1 .0) .prf))
 
-meets : {M : Type 1} (𝓤 : URA M) (H : Heap 𝓤) (A : Atoms 𝓤) (W : Given 𝓤 H A) (at-mem : Memory → SProp 𝓤) (run : Routine → Fun 𝓤) (𝓣 : Tables 𝓤 H) → Triple 𝓤 (𝓣 .C #g₁) (IsDirectory 𝓤 H A at-mem run) → Triple 𝓤 (𝓣 .C #g₂) (ByColumns 𝓤 H A at-mem run) → Triple 𝓤 (𝓣 .C #g₃) (IsData 𝓤 H A at-mem run) → Triple 𝓤 (𝓣 .C #g₄) (Staged 𝓤 H A at-mem run) → Triple 𝓤 (𝓣 .C #g₅) (Settled 𝓤 H A at-mem run)
+meets : {M : Type 1} (𝓤 : URA M) (H : Heap 𝓤) (A : Atoms 𝓤) (W : Given 𝓤 H A) (at-mem : Memory → SProp 𝓤) (run : Routine → Fun 𝓤) (𝓣 : Tables 𝓤 H) → Triple 𝓤 (𝓣 .C #g₁) (IsDirectory 𝓤 H A at-mem run) → Triple 𝓤 (𝓣 .C #g₂) (Turned 𝓤 H A at-mem run) → Triple 𝓤 (𝓣 .C #g₃) (IsData 𝓤 H A at-mem run) → Triple 𝓤 (𝓣 .C #g₄) (Staged 𝓤 H A at-mem run) → Triple 𝓤 (𝓣 .C #g₅) (Settled 𝓤 H A at-mem run)
     → Meets 𝓤 H A f.signature (WpFn 𝓤 H (𝓣 .C) (𝓣 .Λ) code.function) (f.spec 𝓤 H A at-mem run)
 meets 𝓤 H A W at-mem run 𝓣 k₁ k₂ k₃ k₄ k₅ =
     walk-meets 𝓤 H A f.ended stayed W (goes-gave-ref 𝓤 H A W 6 0 tt (plain (λ _. T.the-row)), (goes-gave-slice 𝓤 H A W 6 1 tt (plain (λ _. F.the-row)), (goes-dropped 𝓤 H A W 6 (plain (λ _. u32)) yes (λ κs x f. refl), (goes-dropped 𝓤 H A W 6 (shrSliceOf (2 ∷ []) tt (plain (λ _. u8))) yes (λ κs x f. refl), (goes-dropped 𝓤 H A W 6 (shrSliceOf (3 ∷ []) tt (plain (λ _. u8))) yes (λ κs x f. refl), (goes-dropped 𝓤 H A W 6 (plain (λ _. bool)) yes (λ κs x f. refl), (goes-dropped 𝓤 H A W 6 (shrSliceOf (4 ∷ []) tt (plain (λ _. u16))) yes (λ κs x f. refl), (goes-gave-slice 𝓤 H A W 6 5 tt (plain (λ _. u8)), tt))))))))
@@ -267,7 +267,7 @@ judged-spec 𝓤 H 𝓜 𝓖 𝓡 =
     entered 𝓤 H (tripleOf 𝓤 H (𝓖 .A) f.signature (f.spec 𝓤 H (𝓖 .A) (𝓜 .mem) (𝓡 .run))) (tables 𝓤 H 𝓜 𝓡 code.env .C) (tables 𝓤 H 𝓜 𝓡 code.env .Λ) #f code.function (code.unfolded 𝓤 H 𝓜 𝓡)
     (meets 𝓤 H (𝓖 .A) (givenOf 𝓤 H 𝓜 𝓖) (𝓜 .mem) (𝓡 .run) (tablesOf 𝓤 H 𝓜 (tables 𝓤 H 𝓜 𝓡 code.env))
     (cited 𝓤 H (IsDirectory 𝓤 H (𝓖 .A) (𝓜 .mem) (𝓡 .run)) 𝓜 𝓡 code.env #g₁ g₁-def.routine code.calls-outer-write·judged·is-directory (g₁-thm.met 𝓤 H 𝓜 𝓖 𝓡))
-    (cited 𝓤 H (ByColumns 𝓤 H (𝓖 .A) (𝓜 .mem) (𝓡 .run)) 𝓜 𝓡 code.env #g₂ g₂-def.routine code.calls-outer-write·by-columns·by-columns (g₂-thm.met 𝓤 H 𝓜 𝓖 𝓡))
+    (cited 𝓤 H (Turned 𝓤 H (𝓖 .A) (𝓜 .mem) (𝓡 .run)) 𝓜 𝓡 code.env #g₂ g₂-def.routine code.calls-outer-write·turned·turned (g₂-thm.met 𝓤 H 𝓜 𝓖 𝓡))
     (cited 𝓤 H (IsData 𝓤 H (𝓖 .A) (𝓜 .mem) (𝓡 .run)) 𝓜 𝓡 code.env #g₃ g₃-def.routine code.calls-outer-write·judged·is-data (g₃-thm.met 𝓤 H 𝓜 𝓖 𝓡))
     (cited 𝓤 H (Staged 𝓤 H (𝓖 .A) (𝓜 .mem) (𝓡 .run)) 𝓜 𝓡 code.env #g₄ g₄-def.routine code.calls-outer-write·staged·staged (g₄-thm.met 𝓤 H 𝓜 𝓖 𝓡))
     (cited 𝓤 H (Settled 𝓤 H (𝓖 .A) (𝓜 .mem) (𝓡 .run)) 𝓜 𝓡 code.env #g₅ g₅-def.routine code.calls-outer-write·settled·settled (g₅-thm.met 𝓤 H 𝓜 𝓖 𝓡)))

@@ -1,0 +1,3 @@
+-- What the walks of the lent table to one row give.
+pub mod Rows
+pub mod RowLaws

@@ -1,0 +1,47 @@
+// Thin walks of the lent table to one row: the file that a directory sector asks for, and one id stored.
+use file_table::VF;
+use last_file::LastFile;
+use turn_file::is_unturned_at;
+ghost use mathlib.Core.List.{map};
+ghost use mathlib.Core.Path.{_≡_};
+ghost use Rattle.files.specs.Files.{idOf, withIds};
+ghost use Rattle.turn_file.specs.TurnFile.{withRow};
+ghost use Rattle.row_walks.specs.Rows.{filesAsked};
+
+// The first unturned file shown in directory `k` at slot `n`, with how many rows there are up to it; zeros where there is none.
+pub fn row_at(files: &[VF], k: u16, n: u32) -> LastFile
+    ensures { λ r. ⌜ r ≡ filesAsked k n (now (files .entry)) ⌝ }
+{
+    let mut i = 0;
+    while i < files.len() {
+        let f = files[i];
+        if is_unturned_at(f.id, f.slot, k, n) {
+            return LastFile {
+                n: i + 1,
+                id: f.id,
+                start: f.vstart,
+                size: f.vsize,
+            };
+        }
+        i = i + 1;
+    }
+    LastFile {
+        n: 0,
+        id: 0,
+        start: 0,
+        size: 0,
+    }
+}
+
+// The id of the `n`-th row set; none where `n` is 0 or past the end.
+pub fn put_id(files: &mut [VF], n: usize, id: u16)
+    ensures { λ _. ⌜ now (files .exit) ≡ withIds (now (files .entry)) (withRow (map idOf (now (files .entry))) n id) ⌝ }
+{
+    if n == 0 {
+        return;
+    }
+    if files.len() < n {
+        return;
+    }
+    files[n - 1].id = id;
+}
