@@ -1,11 +1,9 @@
 -- What it is for a sector to be settled by the last file: the answer and the state are `write`'s, of every table with that last file.
 use Prim.Native.Nat.{ℕ}
-use mathlib.Core.Bool.{Bool, true, _&&_}
+use mathlib.Core.Bool.{Bool, true}
 use mathlib.Core.List.{List}
 use mathlib.Core.Path.{_≡_}
-use lib.Dec.{eqb, leb}
-use lib.ListN.{length}
-use Rattle.file_table.specs.Table.{maxFiles, tableOf, wholeColumns}
+use Rattle.file_table.specs.Table.{tableOf, wholeColumns}
 use Rattle.state.specs.Setters.{withBoot, withRec, withSession, withLast, withErr, withN}
 use Rattle.state.specs.declared.w.W.{W}
 use Rattle.judge.specs.Classify.{sectorWrite}
@@ -13,10 +11,6 @@ use Rattle.write.specs.WriteLaws.{Leaves}
 use Rattle.last_file.specs.LastFile.{lastIn}
 use Rattle.last_file.specs.declared.LastFile.{LastFile}
 use Rattle.settle_last.specs.declared.Settled.{Settled}
-
--- only a sector that `write` hands on is judged
-unfoldable pub judgedBy : Bool → ℕ → List ℕ → List ℕ → Bool
-judgedBy rw n shown written = eqb (length shown) 512 && eqb (length written) 512 && leb n maxFiles && rw
 
 -- the state with what a settled sector leaves
 abbrev pub settledIn : W → Settled → W

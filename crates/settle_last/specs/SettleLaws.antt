@@ -12,7 +12,7 @@ use Rattle.sector.specs.Bytes.{same}
 use Rattle.vdisk.specs.Drive.{placeOf}
 use Rattle.vdisk.specs.declared.drive.Place.{Place}
 use Rattle.vdisk.specs.declared.drive.Place.the-variants.{Boot, Fat, Root, Data, Outside}
-use Rattle.file_table.specs.Table.{maxFiles, tableOf, wholeColumns}
+use Rattle.file_table.specs.Table.{tableOf, wholeColumns}
 use Rattle.state.specs.Setters.{withBoot, withRec, withSession, withLast, withErr, withN}
 use Rattle.state.specs.declared.w.W.{W}
 use Rattle.fat_sectors.specs.Fat.{FatWrite, fatNumber, fatState, fatIds}
@@ -20,9 +20,9 @@ use Rattle.records.specs.declared.Rec.{Rec}
 use Rattle.root_sectors.specs.Root.{RootWrite, rootNumber, rootChanged, rootState}
 use Rattle.root_sectors.specs.Records.{rootRecords, state-records}
 use Rattle.judge.specs.Classify.{SectorWrite, sectorWrite, Outcome, unlessShown, bootPasses, boot, fatOf, fat, rootOf, root, atPlace, classify}
-use Rattle.write.specs.Write.{wholeSectors, tableFits, settledState}
-use Rattle.write.specs.WriteLaws.{Leaves, judged}
-use Rattle.tally.specs.Tally.{tallied, talliedIn, withTally, settled-tally}
+use Rattle.write.specs.WriteLaws.{Leaves}
+use Rattle.tally.specs.Judged.{judgedBy, sectors-long, judged-leaves}
+use Rattle.tally.specs.Tally.{tallied, talliedIn, withTally}
 use Rattle.tally.specs.declared.Tallied.{Tallied}
 use Rattle.last_file.specs.LastFile.{lastIn}
 use Rattle.last_file.specs.declared.LastFile.{LastFile}
@@ -30,16 +30,7 @@ use Rattle.settle_last.specs.Fates.{fateAs, unsettled, bootFate, fatRefu
 use Rattle.settle_last.specs.FatLaws.{refusal-number, refusal-other}
 use Rattle.settle_last.specs.SameLaws.{same-number, same-changed, same-records}
 use Rattle.settle_last.specs.RootLaws.{number-same, changed-same, records-same}
-use Rattle.settle_last.specs.Settle.{judgedBy}
 use Rattle.settle_last.specs.declared.fate.Fate.{Fate}
-
--- what is judged has two whole sectors
-pub sectors-long : (rw : Bool) (n : ℕ) (shown written : List ℕ) → judgedBy rw n shown written ≡ true → (length shown ≡ 512) × (length written ≡ 512)
-unfolding judgedBy
-sectors-long rw n shown written e =
-    let a = eqb (length shown) 512 in let b = eqb (length written) 512 in
-    let q = and-0 (a && b) (leb n maxFiles) (and-0 (a && b && leb n maxFiles) rw e) in
-    (eqb-true (length shown) 512 (and-0 a b q), eqb-true (length written) 512 (and-1 a b q))
 
 module _ (w : W) (lba : ℕ) (shown written : List ℕ) (busy : Bool) (fats area ids slots starts sizes : List ℕ) where
   abbrev x : SectorWrite
@@ -151,19 +142,6 @@ module _ (w : W) (lba : ℕ) (shown written : List ℕ) (busy : Bool) (fats area
   -- what `write` leaves of it
   module _ (r : Fate) (is : r ≡ fateAt (w .boot) (w .first) (w .pair) (w .rec) (lastIn ids starts sizes) shown written (placeOf lba)) (settled : r .settled ≡ true)
       (whole : judgedBy (w .rw) (length ids) shown written ≡ true) (columns : wholeColumns (tableOf ids slots starts sizes (w .first)) ≡ true) where
-    tested : ((eqb (length shown) 512 && eqb (length written) 512) ≡ true) × (leb (length ids) maxFiles ≡ true) × (w .rw ≡ true)
-    unfolding judgedBy
-    tested = let a = eqb (length shown) 512 && eqb (length written) 512 in let b = leb (length ids) maxFiles in
-        (and-0 a b (and-0 (a && b) (w .rw) whole), and-1 a b (and-0 (a && b) (w .rw) whole), and-1 (a && b) (w .rw) whole)
-
-    sectors : wholeSectors x ≡ true
-    unfolding wholeSectors
-    sectors = tested .0
-
-    fits : tableFits x w ≡ true
-    unfolding tableFits
-    fits = and-of _ _ (tested .1) columns
-
     starts-long : length starts ≡ length ids
     unfolding wholeColumns
     starts-long =
@@ -173,12 +151,10 @@ module _ (w : W) (lba : ℕ) (shown written : List ℕ) (busy : Bool) (fats area
     classified : classify x w ≡ outcome r
     unfolding classify
     classified =
-        subst (Is (atPlace x w (placeOf lba))) (sym is) (placed (placeOf lba) (eqb-true (length shown) 512 (and-0 (eqb (length shown) 512) (eqb (length written) 512) (tested .0))) starts-long) settled
+        subst (Is (atPlace x w (placeOf lba))) (sym is) (placed (placeOf lba) (sectors-long (w .rw) (length ids) shown written whole .0) starts-long) settled
 
     pub fate-leaves : Leaves x w (r .no) (withTally (withRec (withBoot w (r .boot)) (r .rec)) (talliedIn lba (outcome r))) ids area
-    fate-leaves =
-        let l = subst (λ (o : Outcome). Leaves x w (o .number) (settledState lba o) (o .ids) (o .area)) classified (judged x w sectors fits (tested .2)) in
-        subst (λ (v : W). Leaves x w (r .no) v ids area) (settled-tally lba (outcome r)) l
+    fate-leaves = judged-leaves w lba shown written busy fats area ids slots starts sizes whole columns (outcome r) classified
 
   same-tally : (r : Fate) → talliedIn lba (outcome r) ≡ tallied (r .no) (r .changed) lba (w .session) (w .«now_ms») (w .last) (w .err) (w .n)
   unfolding withBoot withRec

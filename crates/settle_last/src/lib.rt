@@ -4,16 +4,15 @@ pub mod fate;
 pub mod root;
 
 use crate::fate::fate_of;
-use file_table::MAX_VF;
 use last_file::LastFile;
 use records::NREC;
 use records::Rec;
 use state::w::Stats;
 use state::w::W;
+use tally::judged::is_judged;
 use tally::tally;
-use write::lent::whole_sectors;
 ghost use mathlib.Core.Path.{_≡_};
-ghost use Rattle.settle_last.specs.Settle.{SettlesAt, judgedBy};
+ghost use Rattle.settle_last.specs.Settle.{SettlesAt};
 
 // Is the sector settled; the refusal number, 0 where it is taken; and the fields of the state that such a sector may change.
 pub struct Settled {
@@ -25,19 +24,6 @@ pub struct Settled {
     pub last: u64,
     pub err: u8,
     pub n: Stats,
-}
-
-// Only a sector that `write` hands on is judged: 1, 10 and 12 are left to it.
-fn is_judged(rw: bool, n: usize, g: &[u8], d: &[u8]) -> bool
-    ensures { λ r. ⌜ r ≡ judgedBy rw n (now (g .entry)) (now (d .entry)) ⌝ }
-{
-    if !whole_sectors(g, d) {
-        return false;
-    }
-    if MAX_VF < n {
-        return false;
-    }
-    rw
 }
 
 // A written sector, where the last file is all that it needs of the table.

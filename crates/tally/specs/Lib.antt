@@ -1,2 +1,3 @@
 -- What every judged sector leaves in the state.
 pub mod Tally
+pub mod Judged

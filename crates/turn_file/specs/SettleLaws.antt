@@ -16,35 +16,23 @@ use Rattle.vdisk.specs.declared.drive.Place.{Place}
 use Rattle.vdisk.specs.declared.drive.Place.the-variants.{Boot, Fat, Root, Data, Outside}
 use Rattle.vdisk.specs.declared.drive.DirKind.{DirKind}
 use Rattle.vdisk.specs.declared.drive.DirKind.the-variants.{Kind, NoDir}
-use Rattle.file_table.specs.Table.{maxFiles, tableOf, wholeColumns}
+use Rattle.file_table.specs.Table.{tableOf, wholeColumns}
 use Rattle.state.specs.declared.w.W.{W}
 use Rattle.state.specs.declared.w.St.{St}
 use Rattle.dir_sectors.specs.Dir.{DirWrite, dirNumber, dirId, dirIds, dirChanged}
 use Rattle.judge.specs.Classify.{SectorWrite, sectorWrite, Outcome, unlessShown, dir, cluster, atPlace, classify}
-use Rattle.write.specs.Write.{wholeSectors, tableFits, settledState}
-use Rattle.write.specs.WriteLaws.{Leaves, judged}
-use Rattle.tally.specs.Tally.{tallied, talliedIn, withTally, settled-tally}
+use Rattle.write.specs.WriteLaws.{Leaves}
+use Rattle.tally.specs.Judged.{judgedBy, tested, judged-leaves}
+use Rattle.tally.specs.Tally.{tallied, talliedIn, withTally}
 use Rattle.tally.specs.declared.Tallied.{Tallied}
 use Rattle.last_file.specs.LastFile.{lastRows}
 use Rattle.last_file.specs.LastLaws.{few-rows, rows-long}
 use Rattle.last_file.specs.declared.LastFile.{LastFile}
-use Rattle.turn_file.specs.TurnFile.{unturnedRow, fileAsked, firstTurn, oneTurn, askedIn, askedOf, askedAt, askedBy, noFile, judgedBy, withRow}
+use Rattle.turn_file.specs.TurnFile.{unturnedRow, fileAsked, firstTurn, oneTurn, askedIn, askedOf, askedAt, askedBy, noFile, withRow}
 use Rattle.turn_file.specs.Fates.{fateAs, unsettled, dirFile, fileFate, dirFate, clusterFate, fateAt}
 use Rattle.turn_file.specs.TurnLaws.{alike}
 use Rattle.turn_file.specs.declared.Asked.{Asked}
 use Rattle.turn_file.specs.declared.fate.Fate.{Fate}
-
--- what is judged has two whole sectors
-pub both-long : (shown written : List ℕ) → (eqb (length shown) 512 && eqb (length written) 512) ≡ true → (length shown ≡ 512) × (length written ≡ 512)
-both-long shown written e =
-    let a = eqb (length shown) 512 in let b = eqb (length written) 512 in
-    (eqb-true (length shown) 512 (and-0 a b e), eqb-true (length written) 512 (and-1 a b e))
-
-pub sectors-long : (rw : Bool) (n : ℕ) (shown written : List ℕ) → judgedBy rw n shown written ≡ true → (length shown ≡ 512) × (length written ≡ 512)
-unfolding judgedBy
-sectors-long rw n shown written e =
-    let a = eqb (length shown) 512 && eqb (length written) 512 in
-    both-long shown written (and-0 a (leb n maxFiles) (and-0 (a && leb n maxFiles) rw e))
 
 -- a slot asked for is one of a directory's 1,024
 pub asked-lt : (k s : ℕ) (shown written : List ℕ) → s < 64 → askedIn k s shown written .n < 1024
@@ -139,21 +127,8 @@ module _ (w : W) (lba : ℕ) (shown written : List ℕ) (busy : Bool) (fats area
   module _ (f : LastFile) (r : Fate) (is : r ≡ fateAt f shown written fats area (w .st) (placeOf lba)) (settled : r .settled ≡ true)
       (whole : judgedBy (w .rw) (length ids) shown written ≡ true) (found : fileIn (askedBy lba shown written) ≡ f)
       (columns : wholeColumns (tableOf ids slots starts sizes (w .first)) ≡ true) where
-    tested : ((eqb (length shown) 512 && eqb (length written) 512) ≡ true) × (leb (length ids) maxFiles ≡ true) × (w .rw ≡ true)
-    unfolding judgedBy
-    tested = let a = eqb (length shown) 512 && eqb (length written) 512 in let b = leb (length ids) maxFiles in
-        (and-0 a b (and-0 (a && b) (w .rw) whole), and-1 a b (and-0 (a && b) (w .rw) whole), and-1 (a && b) (w .rw) whole)
-
-    sectors : wholeSectors x ≡ true
-    unfolding wholeSectors
-    sectors = tested .0
-
-    fits : tableFits x w ≡ true
-    unfolding tableFits
-    fits = and-of _ _ (tested .1) columns
-
     file-is : fileIn (askedAt (placeOf lba) shown written) ≡ f
-    file-is = ap (λ (a : Asked). fileIn a) (sym (asked-whole (tested .0))) ∙ found
+    file-is = ap (λ (a : Asked). fileIn a) (sym (asked-whole (tested (w .rw) (length ids) shown written whole .0))) ∙ found
 
     classified : classify x w ≡ outcome f r
     unfolding classify
@@ -162,9 +137,7 @@ module _ (w : W) (lba : ℕ) (shown written : List ℕ) (busy : Bool) (fats area
         (subst (λ (g : LastFile). Is g (atPlace x w (placeOf lba)) (fateAt g shown written fats area (w .st) (placeOf lba))) file-is (placed (placeOf lba))) settled
 
     pub fate-leaves : Leaves x w (r .no) (withTally w (talliedIn lba (outcome f r))) (withRow ids (f .n) (r .id)) area
-    fate-leaves =
-        let l = subst (λ (o : Outcome). Leaves x w (o .number) (settledState lba o) (o .ids) (o .area)) classified (judged x w sectors fits (tested .2)) in
-        subst (λ (v : W). Leaves x w (r .no) v (withRow ids (f .n) (r .id)) area) (settled-tally lba (outcome f r)) l
+    fate-leaves = judged-leaves w lba shown written busy fats area ids slots starts sizes whole columns (outcome f r) classified
 
   pub settles : (f : LastFile) (rows : ℕ) (r : Fate) (t : Tallied) → r ≡ fateAt f shown written fats area (w .st) (placeOf lba)
       → t ≡ tallied (r .no) (r .changed) lba (w .session) (w .«now_ms») (w .last) (w .err) (w .n) → judgedBy (w .rw) rows shown written ≡ true → r .settled ≡ true

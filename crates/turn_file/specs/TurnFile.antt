@@ -4,7 +4,7 @@ use Prim.Native.Nat.{ℕ, _-_, _+_, _*_}
 use mathlib.Core.Bool.{Bool, true, not, _&&_, _||_}
 use mathlib.Core.List.{List}
 use mathlib.Core.Path.{_≡_}
-use lib.Dec.{eqb, ltb, leb}
+use lib.Dec.{eqb, ltb}
 use lib.ListN.{length, getD, set}
 use Rattle.loops.specs.Loops.{pick, all, first as firstOf}
 use Rattle.loops.specs.Found.{find}
@@ -17,7 +17,7 @@ use Rattle.vdisk.specs.declared.drive.Place.the-variants.{Boot, Fat, Root, Data
 use Rattle.vdisk.specs.declared.drive.DirKind.{DirKind}
 use Rattle.vdisk.specs.declared.drive.DirKind.the-variants.{Kind, NoDir}
 use Rattle.slots.specs.Slots.{turnAt}
-use Rattle.file_table.specs.Table.{maxFiles, tableOf, wholeColumns}
+use Rattle.file_table.specs.Table.{tableOf, wholeColumns}
 use Rattle.state.specs.Setters.{withSession, withLast, withErr, withN}
 use Rattle.state.specs.declared.w.W.{W}
 use Rattle.judge.specs.Classify.{sectorWrite}
@@ -83,10 +83,6 @@ askedAt Outside shown written = noFile
 -- what a written sector asks for: of no file unless both sectors have 512 bytes
 unfoldable pub askedBy : ℕ → List ℕ → List ℕ → Asked
 askedBy lba shown written = pick (eqb (length shown) 512 && eqb (length written) 512) (askedAt (placeOf lba) shown written) noFile
-
--- only a sector that `write` hands on is judged: two whole sectors, up to 400 files, a drive that may be written
-unfoldable pub judgedBy : Bool → ℕ → List ℕ → List ℕ → Bool
-judgedBy rw n shown written = eqb (length shown) 512 && eqb (length written) 512 && leb n maxFiles && rw
 
 -- the ids with that file's
 abbrev pub withRow : List ℕ → ℕ → ℕ → List ℕ

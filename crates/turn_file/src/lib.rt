@@ -5,10 +5,10 @@ pub mod turns;
 use crate::fate::fate_of;
 use crate::turns::asked_of;
 use crate::turns::no_file;
-use file_table::MAX_VF;
 use last_file::LastFile;
 use state::w::Stats;
 use state::w::W;
+use tally::judged::is_judged;
 use tally::tally;
 use vdisk::drive::Place;
 use vdisk::drive::place_of;
@@ -16,7 +16,7 @@ use vdisk::ids::TURNED;
 use vdisk::ids::id_dir;
 use write::lent::whole_sectors;
 ghost use mathlib.Core.Path.{_≡_};
-ghost use Rattle.turn_file.specs.TurnFile.{TurnsAt, unturnedAt, askedBy, judgedBy};
+ghost use Rattle.turn_file.specs.TurnFile.{TurnsAt, unturnedAt, askedBy};
 
 // The directory and slot that a sector asks for: those of its first turned slot; of no file where it has none.
 pub struct Asked {
@@ -62,19 +62,6 @@ pub fn file_asked(lba: u32, g: &[u8], d: &[u8]) -> Asked
         Place::Data(c, s) => asked_of(c, s, g, d),
         Place::Outside => no_file(),
     }
-}
-
-// Only a sector that `write` hands on is judged: 1, 10 and 12 are left to it.
-fn is_judged(rw: bool, rows: usize, g: &[u8], d: &[u8]) -> bool
-    ensures { λ r. ⌜ r ≡ judgedBy rw rows (now (g .entry)) (now (d .entry)) ⌝ }
-{
-    if !whole_sectors(g, d) {
-        return false;
-    }
-    if MAX_VF < rows {
-        return false;
-    }
-    rw
 }
 
 // A written directory sector, where the file asked for is all that it needs of the table, which has so many rows.

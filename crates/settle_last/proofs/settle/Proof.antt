@@ -1,14 +1,15 @@
 use mathlib.Core.Bool.{false≢true}
 use mathlib.Core.Path.{sym, _∙_}
 use borrow.Author.Tests.{not-false}
-use Rattle.settle_last.specs.SettleLaws.{sectors-long, settles}
+use Rattle.settle_last.specs.SettleLaws.{settles}
+use Rattle.tally.specs.Judged.{sectors-long}
 use borrow.Author.Needs.{needs}
 use Rattle.settle_last.proofs.settle.Statement.{statement}
 use Rattle.settle_last.proofs.settle.Tie as tie
 use Rattle.settle_last.proofs.settle.Reads as reads
 use Rattle.settle_last.proofs.settle.Lts as lts
 use Rattle.settle_last.proofs.fate.fate_of.Reads as fate-of-reads
-use Rattle.settle_last.proofs.is_judged.Reads as is-judged-reads
+use Rattle.tally.proofs.judged.is_judged.Reads as is-judged-reads
 use Rattle.tally.proofs.tally.Reads as tally-reads
 
 -- src/lib.rt:49:9

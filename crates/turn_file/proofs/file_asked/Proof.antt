@@ -2,7 +2,7 @@ use mathlib.Core.Path.{sym, _∙_}
 use borrow.Author.Tests.{not-true, not-false}
 use Rattle.judge.specs.JudgeLaws.{data-lt}
 use Rattle.turn_file.specs.TurnFile.{askedBy, askedAt}
-use Rattle.turn_file.specs.SettleLaws.{both-long}
+use Rattle.tally.specs.Judged.{both-long}
 use borrow.Author.Needs.{needs}
 use Rattle.turn_file.proofs.file_asked.Statement.{statement}
 use Rattle.turn_file.proofs.file_asked.Tie as tie

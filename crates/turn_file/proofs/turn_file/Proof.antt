@@ -1,7 +1,8 @@
 use mathlib.Core.Bool.{false≢true}
 use mathlib.Core.Path.{refl, sym, _∙_}
 use borrow.Author.Tests.{not-false}
-use Rattle.turn_file.specs.SettleLaws.{sectors-long, settles}
+use Rattle.turn_file.specs.SettleLaws.{settles}
+use Rattle.tally.specs.Judged.{sectors-long}
 use borrow.Author.Needs.{needs}
 use Rattle.turn_file.proofs.turn_file.Statement.{statement}
 use Rattle.turn_file.proofs.turn_file.Tie as tie
@@ -9,7 +10,7 @@ use Rattle.turn_file.proofs.turn_file.Reads as reads
 use Rattle.turn_file.proofs.turn_file.Lts as lts
 use Rattle.tally.proofs.tally.Reads as tally-reads
 use Rattle.turn_file.proofs.fate.fate_of.Reads as fate-of-reads
-use Rattle.turn_file.proofs.is_judged.Reads as is-judged-reads
+use Rattle.tally.proofs.judged.is_judged.Reads as is-judged-reads
 
 -- src/lib.rt:95:9
 is-judged-requires : tie.Need-is-judged-requires

@@ -1,28 +1,28 @@
 use mathlib.Core.Path.{sym, _∙_}
 use borrow.Author.Tests.{not-true, not-false, lt-leb, le-leb}
-use Rattle.settle_last.specs.Settle.{judgedBy}
+use Rattle.tally.specs.Judged.{judgedBy}
 use borrow.Author.Needs.{needs}
-use Rattle.settle_last.proofs.is_judged.Statement.{statement}
-use Rattle.settle_last.proofs.is_judged.Tie as tie
-use Rattle.settle_last.proofs.is_judged.Reads as reads
-use Rattle.settle_last.proofs.is_judged.Lts as lts
+use Rattle.tally.proofs.judged.is_judged.Statement.{statement}
+use Rattle.tally.proofs.judged.is_judged.Tie as tie
+use Rattle.tally.proofs.judged.is_judged.Reads as reads
+use Rattle.tally.proofs.judged.is_judged.Lts as lts
 use Rattle.write.proofs.lent.whole_sectors.Reads as whole-sectors-reads
 
--- src/lib.rt:34:9
+-- src/judged.rt
 whole-sectors-requires : tie.Need-whole-sectors-requires
 whole-sectors-requires c κs = search needs
 
--- src/lib.rt:35:9
+-- src/judged.rt
 returns : tie.Need-returns
 unfolding judgedBy
 returns c = simp (sym (c .before .whole-sectors .ensures) ∙ not-true _ (c .if1 .taken))
 
--- src/lib.rt:38:9
+-- src/judged.rt
 returns-2 : tie.Need-returns-2
 unfolding judgedBy
 returns-2 c = simp (sym (c .before .before .whole-sectors .ensures) ∙ not-false _ (c .before .if1 .left), lt-leb _ _ (c .if2 .taken))
 
--- src/lib.rt:31:1
+-- src/judged.rt
 returns-3 : tie.Need-returns-3
 unfolding judgedBy
 returns-3 c = simp (sym (c .before .before .whole-sectors .ensures) ∙ not-false _ (c .before .if1 .left), le-leb _ _ (c .if2 .left))
