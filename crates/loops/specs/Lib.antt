@@ -8,3 +8,4 @@ pub mod Found
 pub mod Rows
 pub mod Keyed
 pub mod Marks
+pub mod Skips

@@ -46,10 +46,10 @@ module _ (chars : List ℕ) (n : ℕ) (full : length chars ≡ 32) (h : n ≤ 32
   pub push-full : (t : List ℕ) → 32 ≤ n → take n chars ≡ take 32 (take n chars ++ t)
   push-full t l = sym (take-at (take n chars) t 32 (held-length ∙ omega arith))
 
-  pub push-room : (x : ℕ) → n < 32 → take (n + 1) (set chars n x) ≡ take 32 (take n chars ++ (x ∷ []))
-  push-room x l =
-      let s : length (take n chars ++ (x ∷ [])) ≤ 32 = simp (length-append, held-length) (omega arith) in
-      rw (add-one n, take-suc-set chars n x (omega arith)) (sym (take-all 32 (take n chars ++ (x ∷ [])) s))
+  pub push-room : (x y : ℕ) → x ≡ y → n < 32 → take (n + 1) (set chars n x) ≡ take 32 (take n chars ++ (y ∷ []))
+  push-room x y e l =
+      let s : length (take n chars ++ (y ∷ [])) ≤ 32 = simp (length-append, held-length) (omega arith) in
+      rw (add-one n, take-suc-set chars n x (omega arith), e) (sym (take-all 32 (take n chars ++ (y ∷ [])) s))
 
 -- the characters of an entry, from i on
 module _ (e : List ℕ) (n i : ℕ) (w h : List ℕ) (inv : w ≡ take 32 (h ++ map shownChar (listed (charOf e) (n - i) i))) where
@@ -99,9 +99,9 @@ joined-more look idx s h g e inv at q =
     q ∙ rw (inv, take-on 32 (map shownChar before) (map shownChar (textOf e)), ← map-append shownChar before (textOf e), more, add-one s)
 
 -- a short name: the part before the dot, and what comes after it
-module _ (d : List ℕ) (at : ℕ) (z b : List ℕ) (none : z ≡ []) (before : b ≡ take 32 (z ++ unblanked (take (at + 8 - at) (drop at d)))) where
+module _ (d : List ℕ) (at : ℕ) (b : List ℕ) (before : b ≡ take 32 (unblanked (take (at + 8 - at) (drop at d)))) where
   front : b ≡ take 32 (unblanked (take 8 (drop at d)))
-  front = let e : at + 8 - at ≡ 8 = omega arith in before ∙ rw (e, none)
+  front = let e : at + 8 - at ≡ 8 = omega arith in before ∙ rw e
 
   pub short-plain : getD d (at + 8) 0 ≡ code " " → b ≡ take 32 (shortName d at)
   unfolding shortName
@@ -117,7 +117,13 @@ module _ (d : List ℕ) (at : ℕ) (z b : List ℕ) (none : z ≡ []) (before : 
       let f : take 32 (b ++ (code "." ∷ v)) ≡ take 32 (g ++ v) = added (take 32 (b ++ (code "." ∷ v))) b g (code "." ∷ []) v refl p in
       rw (ne-eqb (getD d (at + 8) 0) (code " ") e) (q ∙ rw n (sym f ∙ rw (front, take-on 32 u (code "." ∷ v))))
 
--- a name: the long text if it has a character
+-- a name: without long entries the short name
+pub name-none : (look : ℕ → List ℕ) (d : List ℕ) (base idx m : ℕ) → m ≡ 0 → (r : List ℕ) → r ≡ take 32 (shortName d ((idx - base) * 32))
+    → r ≡ nameBy look d base idx m
+unfolding nameBy joined
+name-none look d base idx m e r q = rw e q
+
+-- with them the long text if it has a character
 module _ (look : ℕ → List ℕ) (d : List ℕ) (base idx m : ℕ) (name : Name) (full : length (name .chars) ≡ 32) (h : name .len ≤ 32)
     (long : held name ≡ take 32 (map shownChar (joined look idx m))) where
   long-length : name .len ≡ min 32 (length (joined look idx m))

@@ -5,7 +5,7 @@ use crate::entries::text_len;
 use records::NREC;
 use records::Rec;
 ghost use mathlib.Core.Path.{_≡_};
-ghost use mathlib.Core.List.{_++_, _∷_, [], map};
+ghost use mathlib.Core.List.{_++_, [], map};
 ghost use Prim.Native.Nat.{ℕ, _+_, _-_, _<_, _≤_};
 ghost use lib.ListN.{length, take, drop};
 ghost use Rattle.loops.specs.Loops.{listed};
@@ -27,21 +27,6 @@ pub fn empty() -> Name
     }
 }
 
-// One character more, while there is room.
-pub fn pushed(name: Name, c: u8) -> Name
-    requires { ⌜ name .len ≤ 32 ⌝ }
-    ensures { λ r. ⌜ (r .len ≤ 32) × (held r ≡ take 32 (held name ++ (c ∷ []))) ⌝ }
-{
-    let n = name.len;
-    if 32 <= n {
-        return name;
-    }
-    let mut out = name;
-    out.chars[n] = c;
-    out.len = n + 1;
-    out
-}
-
 // A character as the name shows it: lower case, and `?` from 0x80 up.
 fn shown_char(c: u16) -> u8
     ensures { λ r. ⌜ r ≡ shownChar c ⌝ }
@@ -61,7 +46,12 @@ fn with_text(name: Name, e: &[u8]) -> Name
     let mut out = name;
     let mut i = 0;
     while i < n {
-        out = pushed(out, shown_char(char_at(e, i)));
+        let k = out.len;
+        if 32 <= k {
+            return out;
+        }
+        out.chars[k] = shown_char(char_at(e, i));
+        out.len = k + 1;
         i += 1;
     }
     out
@@ -82,22 +72,28 @@ pub fn long_text(rec: [Rec; NREC], d: &[u8], base: usize, idx: usize, m: usize) 
     out
 }
 
-// The bytes from `at` on to `end` that are no blanks, in lower case, added.
-fn with_part(name: Name, d: &[u8], at: usize, end: usize) -> Name
-    requires { ⌜ (name .len ≤ 32) × (at ≤ end) × (end ≤ length (now d)) ⌝ }
-    ensures { λ r. ⌜ (r .len ≤ 32) × (held r ≡ take 32 (held name ++ unblanked (take (end - at) (drop at (now (d .entry)))))) ⌝ }
+// The bytes from `at` on to `end` that are no blanks, in lower case, put behind the first `n` characters while there is room; how many there are then.
+fn put_part(chars: &mut [u8], n: usize, d: &[u8], at: usize, end: usize) -> usize
+    requires { ⌜ (length (now chars) ≡ 32) × (n ≤ 32) × (at ≤ end) × (end ≤ length (now d)) ⌝ }
+    ensures room { λ r. ⌜ (r ≤ 32) × (r ≤ n + (end - at)) × (length (now (chars .exit)) ≡ 32) ⌝ }
+    ensures text { λ r. ⌜ take r (now (chars .exit)) ≡ take 32 (take n (now (chars .entry)) ++ unblanked (take (end - at) (drop at (now (d .entry))))) ⌝ }
 {
-    let mut out = name;
+    let mut m = n;
     let mut i = at;
     while i < end {
-        if d[i] == b' ' {
+        let c = d[i];
+        if c == b' ' {
             i += 1;
         } else {
-            out = pushed(out, slots::fields::lower(d[i]));
+            if 32 <= m {
+                return m;
+            }
+            chars[m] = slots::fields::lower(c);
+            m += 1;
             i += 1;
         }
     }
-    out
+    m
 }
 
 // The short name of the slot at `at`, with its dot.
@@ -105,12 +101,21 @@ pub fn short_text(d: &[u8], at: usize) -> Name
     requires { ⌜ at + 32 ≤ length (now d) ⌝ }
     ensures { λ r. ⌜ (r .len ≤ 32) × (held r ≡ take 32 (shortName (now (d .entry)) at)) ⌝ }
 {
+    let mut chars = [0u8; 32];
     let dot = at + 8;
-    let base = with_part(empty(), d, at, dot);
+    let n = put_part(&mut chars, 0, d, at, dot);
     if d[dot] == b' ' {
-        return base;
+        return Name {
+            chars: chars,
+            len: n,
+        };
     }
-    with_part(pushed(base, b'.'), d, dot, at + 11)
+    chars[n] = b'.';
+    let m = put_part(&mut chars, n + 1, d, dot, at + 11);
+    Name {
+        chars: chars,
+        len: m,
+    }
 }
 
 // The name of root slot `idx` with `m` long entries; with no character in them the short name.
@@ -118,6 +123,9 @@ pub fn name_by(rec: [Rec; NREC], d: &[u8], base: usize, idx: usize, m: usize) ->
     requires { ⌜ (length (now d) ≡ 512) × (m ≤ idx) × (base ≤ idx) × (idx < base + 16) ⌝ }
     ensures { λ r. ⌜ (r .len ≤ 32) × (held r ≡ nameBy (entryOf rec (now (d .entry)) base) (now (d .entry)) base idx m) ⌝ }
 {
+    if m == 0 {
+        return short_text(d, (idx - base) * 32);
+    }
     let long = long_text(rec, d, base, idx, m);
     let n = long.len;
     if n == 0 {

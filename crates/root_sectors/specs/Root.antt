@@ -37,8 +37,12 @@ rootWrite ids starts sizes first pairs recs s shown written =
 abbrev pub slotAt : RootWrite → ℕ → ℕ
 slotAt x i = x .s * 16 + i
 
+-- slot i is written otherwise than shown
+abbrev pub changedSlot : List ℕ → List ℕ → ℕ → Bool
+changedSlot shown written i = not (sameSlot shown written (i * 32))
+
 abbrev pub changedAt : RootWrite → ℕ → Bool
-changedAt x i = not (sameSlot (x .shown) (x .written) (i * 32))
+changedAt x i = changedSlot (x .shown) (x .written) i
 
 -- slots 0 to 6 are the drive's own
 abbrev pub isOwn : RootWrite → ℕ → Bool

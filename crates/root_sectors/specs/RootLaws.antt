@@ -4,7 +4,8 @@ use mathlib.Core.Bool.{Bool, true, false, not, _&&_, _||_}
 use mathlib.Core.List.{List}
 use mathlib.Core.Path.{_≡_, refl, sym, ap, _∙_}
 use lib.Dec.{leb}
-use Rattle.loops.specs.Loops.{some, some-go, some-stop, some-end}
+use borrow.Author.Tests.{not-false}
+use Rattle.loops.specs.Loops.{first, first-start, first-go, some, some-start, some-go, some-stop, some-end, count, count-start, count-no, fold, fold-start, fold-go}
 use Rattle.loops.specs.Choices.{or-r}
 use Rattle.loops.specs.Found.{find-lt}
 use Rattle.loops.specs.declared.Found.{Found}
@@ -14,8 +15,9 @@ use Rattle.records.specs.RecordLaws.{recIdx-lt}
 use Rattle.records.specs.declared.Rec.{Rec}
 use Rattle.slots.specs.Slots.{sameSlot}
 use Rattle.root_slots.specs.OrLaws.{or-none}
-use Rattle.root_sectors.specs.Root.{RootWrite, placeOf, slotNumber, refusedAt, keptAt, needsRec}
+use Rattle.root_sectors.specs.Root.{RootWrite, changedSlot, placeOf, slotNumber, refusedAt, keptAt, needsRec}
 use Rattle.root_sectors.specs.Records.{keptIn, keepRec}
+use Rattle.loops.specs.Skips.{skips}
 
 place-by : (recs : List Rec) (i : ℕ) (f : Found) → ((j : ℕ) → f ≡ At j → j < maxRecords) → placeOf recs f ≡ At i → i < maxRecords
 unfolding placeOf freeRec
@@ -54,3 +56,53 @@ module _ (p : ℕ → Bool) (m i : ℕ) (w a : Bool) (inv : w ≡ (a || some p (
 
   pub any-end : m ≤ i → a ≡ w
   any-end h = sym (inv ∙ or-none a (some p (m - i) i) (sym (some-end p m i _ refl h)))
+
+-- The search for a refused slot, come to slot i with `need` places needed.
+pub record Judging (x : RootWrite) (need i : ℕ) : Type 0 where
+  pub refused : first (refusedAt x) 16 0 ≡ first (refusedAt x) (16 - i) i
+  pub needed : count (needsRec x) 16 0 ≡ need + count (needsRec x) (16 - i) i
+
+pub judging-start : (x : RootWrite) → Judging x 0 0
+judging-start x = record { refused = first-start _ _; needed = count-start _ _ }
+
+-- it goes on to the next changed slot
+pub judging-on : (x : RootWrite) (need i r : ℕ) → i ≤ 16 → r ≡ first (changedSlot (x .shown) (x .written)) (16 - i) i → Judging x need i → Judging x need r
+judging-on x need i r l e p =
+    rw e (skips (changedSlot (x .shown) (x .written)) 16 (Judging x need)
+    (λ n h q v. let same = not-false _ q in
+    record { refused = first-go _ _ _ _ (v .refused) h (same-refused x n same); needed = count-no _ _ _ _ _ (v .needed) h (same-needs x n same) })
+    i l p)
+
+-- slot i is a changed host slot
+abbrev pub keptSlot : ℕ → List ℕ → List ℕ → ℕ → Bool
+keptSlot s shown written i = changedSlot shown written i && not (leb (s * 16 + i) 6)
+
+-- The changed host slots are kept, up to slot i: whether there was one, and the records then.
+pub record Keeping (s : ℕ) (shown written : List ℕ) (recs : List Rec) (found : Bool) (now : List Rec) (i : ℕ) : Type 0 where
+  pub any : some (keptSlot s shown written) 16 0 ≡ (found || some (keptSlot s shown written) (16 - i) i)
+  pub kept : fold (keepRec s shown written) 16 0 recs ≡ fold (keepRec s shown written) (16 - i) i now
+
+module _ (s : ℕ) (shown written : List ℕ) (recs : List Rec) where
+  pub keeping-start : Keeping s shown written recs false recs 0
+  keeping-start = record { any = some-start _ _; kept = fold-start _ _ _ }
+
+  module _ (found : Bool) (now : List Rec) (i : ℕ) (h : i < 16) (p : Keeping s shown written recs found now i) where
+    pub keeping-none : keptSlot s shown written i ≡ false → Keeping s shown written recs found now (i + 1)
+    keeping-none e =
+        record {
+          any = any-go (keptSlot s shown written) 16 i _ found (p .any) h e;
+          kept = fold-go _ _ _ _ _ (p .kept) h ∙ ap (fold _ _ _) (slot-not-kept s shown written i now e);
+        }
+
+    pub keeping-one : keptSlot s shown written i ≡ true → Keeping s shown written recs true (keptIn s written i now) (i + 1)
+    keeping-one e =
+        record {
+          any = any-stop (keptSlot s shown written) 16 i _ found (p .any) h e;
+          kept = fold-go _ _ _ _ _ (p .kept) h ∙ ap (fold _ _ _) (slot-kept s shown written i now e);
+        }
+
+  -- it goes on to the next changed slot
+  pub keeping-on : (found : Bool) (now : List Rec) (i r : ℕ) → i ≤ 16 → r ≡ first (changedSlot shown written) (16 - i) i
+      → Keeping s shown written recs found now i → Keeping s shown written recs found now r
+  keeping-on found now i r l e p =
+      rw e (skips (changedSlot shown written) 16 (Keeping s shown written recs found now) (λ n h q v. keeping-none found now n h v (rw q)) i l p)

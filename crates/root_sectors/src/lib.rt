@@ -14,16 +14,16 @@ use state::w::NPAIR;
 use state::w::Pair;
 use state::w::W;
 ghost use mathlib.Core.Path.{_≡_};
-ghost use Prim.Native.Nat.{ℕ, _+_, _*_, _<_};
+ghost use Prim.Native.Nat.{ℕ, _+_, _-_, _*_, _<_, _≤_};
 ghost use mathlib.Core.Bool.{true, not, _&&_};
 ghost use lib.Dec.{leb};
 ghost use lib.ListN.{length};
-ghost use Rattle.loops.specs.Loops.{some, fold};
+ghost use Rattle.loops.specs.Loops.{first as firstOf, some, fold};
 ghost use Rattle.slots.specs.Slots.{sameSlot};
 ghost use Rattle.clusters.specs.Clusters.{isNothing};
 ghost use Rattle.records.specs.Records.{recIdx};
-ghost use Rattle.root_sectors.specs.Root.{rootWrite, startFits, slotNumber, rootNumber, placeOf, rootState, rootChanged};
-ghost use Rattle.root_sectors.specs.Records.{keptIn, keepRec, rootRecords};
+ghost use Rattle.root_sectors.specs.Root.{rootWrite, changedSlot, startFits, slotNumber, rootNumber, placeOf, rootState, rootChanged};
+ghost use Rattle.root_sectors.specs.Records.{keepRec, rootRecords};
 ghost use Rattle.root_sectors.specs.Lent.{Lent};
 
 // Is the start in slot `i` 0 or a host cluster.
@@ -50,7 +50,22 @@ fn start_fits(
     host_cluster(ids, starts, sizes, sorted, first, pair, start as u32)
 }
 
-// The refusal number of slot `i`, 0 where it passes: 7, 8.
+// The first slot from `from` on that is written otherwise than shown, 16 where none is.
+fn next_changed(g: &[u8], d: &[u8], from: u32) -> u32
+    requires { ⌜ (length (now g) ≡ 512) × (length (now d) ≡ 512) × (from ≤ 16) ⌝ }
+    ensures { λ r. ⌜ r ≡ firstOf (changedSlot (now (g .entry)) (now (d .entry))) (16 - from) from ⌝ }
+{
+    let mut i = from;
+    while i < 16 {
+        if !same_slot(g, d, i as usize * 32) {
+            return i;
+        }
+        i += 1;
+    }
+    i
+}
+
+// The refusal number of changed slot `i`, 0 where it passes: 7, 8.
 fn slot_number(
     ids: &[u16],
     starts: &[u16],
@@ -64,16 +79,12 @@ fn slot_number(
     d: &[u8],
     i: u32,
 ) -> u8
-    requires { ⌜ Lent (now ids) (now starts) (now sizes) sorted s (now g) (now d) × (i < 16) ⌝ }
+    requires { ⌜ Lent (now ids) (now starts) (now sizes) sorted s (now g) (now d) × (i < 16) × (changedSlot (now g) (now d) i ≡ true) ⌝ }
     ensures { λ r. ⌜ r ≡ slotNumber (rootWrite (now (ids .entry)) (now (starts .entry)) (now (sizes .entry)) first pair rec s (now (g .entry)) (now (d .entry))) i ⌝ }
 {
-    let at = i as usize * 32;
-    if same_slot(g, d, at) {
-        return 0;
-    }
     let idx = s * 16 + i;
     if idx <= 6 {
-        if dates_only(g, d, at) {
+        if dates_only(g, d, i as usize * 32) {
             return 0;
         }
         return 7;
@@ -85,23 +96,12 @@ fn slot_number(
     8
 }
 
-// Is slot `i` a changed host slot.
-fn is_kept(s: u32, g: &[u8], d: &[u8], i: u32) -> bool
-    requires { ⌜ (s < 32) × (length (now g) ≡ 512) × (length (now d) ≡ 512) × (i < 16) ⌝ }
-    ensures { λ r. ⌜ r ≡ not (sameSlot (now (g .entry)) (now (d .entry)) (i * 32)) && not (leb (s * 16 + i) 6) ⌝ }
-{
-    if same_slot(g, d, i as usize * 32) {
-        return false;
-    }
-    !(s * 16 + i <= 6)
-}
-
-// Does slot `i` need a record's place.
+// Does changed slot `i` need a record's place.
 fn needs_rec(rec: [Rec; NREC], s: u32, g: &[u8], d: &[u8], i: u32) -> bool
-    requires { ⌜ (s < 32) × (length (now g) ≡ 512) × (length (now d) ≡ 512) × (i < 16) ⌝ }
+    requires { ⌜ (s < 32) × (i < 16) × (changedSlot (now g) (now d) i ≡ true) ⌝ }
     ensures { λ r. ⌜ r ≡ not (sameSlot (now (g .entry)) (now (d .entry)) (i * 32)) && not (leb (s * 16 + i) 6) && isNothing (recIdx rec (s * 16 + i)) ⌝ }
 {
-    if !is_kept(s, g, d, i) {
+    if s * 16 + i <= 6 {
         return false;
     }
     is_nothing(rec_idx(rec, (s * 16 + i) as usize))
@@ -124,22 +124,16 @@ fn root_number(
     ensures { λ r. ⌜ r ≡ rootNumber (rootWrite (now (ids .entry)) (now (starts .entry)) (now (sizes .entry)) first pair rec s (now (g .entry)) (now (d .entry))) ⌝ }
 {
     let mut need = 0;
-    let mut i = 0;
+    let mut i = next_changed(g, d, 0);
     while i < 16 {
-        if same_slot(g, d, i as usize * 32) {
-            i += 1;
-        } else {
-            let no = slot_number(ids, starts, sizes, sorted, first, pair, rec, s, g, d, i);
-            if no != 0 {
-                return no;
-            }
-            if needs_rec(rec, s, g, d, i) {
-                need += 1;
-                i += 1;
-            } else {
-                i += 1;
-            }
+        let no = slot_number(ids, starts, sizes, sorted, first, pair, rec, s, g, d, i);
+        if no != 0 {
+            return no;
         }
+        if needs_rec(rec, s, g, d, i) {
+            need += 1;
+        }
+        i = next_changed(g, d, i + 1);
     }
     if records::free_recs(rec) < need {
         return 15;
@@ -163,26 +157,7 @@ struct Kept {
     rec: [Rec; NREC],
 }
 
-// Slot `i` as written, kept in its record.
-fn keep_at(mut kept: Kept, s: u32, d: &[u8], i: u32) -> Kept
-    requires { ⌜ (s < 32) × (length (now d) ≡ 512) × (i < 16) ⌝ }
-    ensures any { λ r. ⌜ r .any ≡ true ⌝ }
-    ensures records { λ r. ⌜ r .rec ≡ keptIn s (now (d .entry)) i (kept .rec) ⌝ }
-{
-    kept.any = true;
-    let idx = s * 16 + i;
-    let rec = kept.rec;
-    let Found::At(k) = place_of(rec, idx as usize) else {
-        return kept;
-    };
-    let e = copied(d, i as usize * 32);
-    kept.rec[k] = Rec {
-        slot: idx as u16,
-        e: e,
-    };
-    kept
-}
-
+// The changed host slots as written, each kept in its record.
 fn keep_all(rec: [Rec; NREC], s: u32, g: &[u8], d: &[u8]) -> Kept
     requires { ⌜ (s < 32) × (length (now g) ≡ 512) × (length (now d) ≡ 512) ⌝ }
     ensures any { λ r. ⌜ r .any ≡ some (λ i. not (sameSlot (now (g .entry)) (now (d .entry)) (i * 32)) && not (leb (s * 16 + i) 6)) 16 0 ⌝ }
@@ -192,14 +167,24 @@ fn keep_all(rec: [Rec; NREC], s: u32, g: &[u8], d: &[u8]) -> Kept
         any: false,
         rec: rec,
     };
-    let mut i = 0;
+    let mut i = next_changed(g, d, 0);
     while i < 16 {
-        if is_kept(s, g, d, i) {
-            kept = keep_at(kept, s, d, i);
-            i += 1;
-        } else {
-            i += 1;
+        let slot = s * 16 + i;
+        let at = i as usize * 32;
+        i = next_changed(g, d, i + 1);
+        if slot <= 6 {
+            continue;
         }
+        kept.any = true;
+        let rec = kept.rec;
+        let Found::At(k) = place_of(rec, slot as usize) else {
+            continue;
+        };
+        let e = copied(d, at);
+        kept.rec[k] = Rec {
+            slot: slot as u16,
+            e: e,
+        };
     }
     kept
 }

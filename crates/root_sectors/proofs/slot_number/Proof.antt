@@ -5,32 +5,25 @@ use borrow.Author.Needs.{needs}
 use Rattle.root_sectors.proofs.slot_number.Statement.{statement}
 use Rattle.root_sectors.proofs.slot_number.Tie as tie
 
-mul-at : tie.Need-mul-at
-mul-at c = search needs
-
-same-slot-requires : tie.Need-same-slot-requires
-same-slot-requires c κs = search needs
-
-returns : tie.Need-returns
-unfolding slotNumber
-returns c = simp (sym (c .before .same-slot .ensures) ∙ c .if1 .taken)
-
 mul-idx : tie.Need-mul-idx
 mul-idx c = search needs
 
 add-idx : tie.Need-add-idx
 add-idx c = search needs
 
+mul-dates-only : tie.Need-mul-dates-only
+mul-dates-only c = search needs
+
 dates-only-requires : tie.Need-dates-only-requires
 dates-only-requires c κs = search needs
 
+returns : tie.Need-returns
+unfolding slotNumber
+returns c = simp (c .before .before .before .before .before .before .before .before .pre .2, le-leb _ _ (c .before .before .if1 .taken), sym (c .before .dates-only .ensures) ∙ c .if2 .taken)
+
 returns-2 : tie.Need-returns-2
 unfolding slotNumber
-returns-2 c = simp (sym (c .before .before .before .before .same-slot .ensures) ∙ c .before .before .before .if1 .left, le-leb _ _ (c .before .before .if2 .taken), sym (c .before .dates-only .ensures) ∙ c .if3 .taken)
-
-returns-3 : tie.Need-returns-3
-unfolding slotNumber
-returns-3 c = simp (sym (c .before .before .before .before .same-slot .ensures) ∙ c .before .before .before .if1 .left, le-leb _ _ (c .before .before .if2 .taken), sym (c .before .dates-only .ensures) ∙ c .if3 .left)
+returns-2 c = simp (c .before .before .before .before .before .before .before .before .pre .2, le-leb _ _ (c .before .before .if1 .taken), sym (c .before .dates-only .ensures) ∙ c .if2 .left)
 
 start-fits-requires : tie.Need-start-fits-requires
 start-fits-requires c κs = search needs
@@ -44,29 +37,27 @@ cast-rec-ok c = search needs
 rec-ok-requires : tie.Need-rec-ok-requires
 rec-ok-requires c κs = search needs
 
+returns-3 : tie.Need-returns-3
+unfolding slotNumber
+returns-3 c = simp (c .before .before .before .before .before .before .before .before .before .pre .2, lt-leb _ _ (c .before .before .before .if1 .left), ← c .before .before .start-fits .ensures, sym (c .before .rec-ok .ensures) ∙ c .if3 .taken)
+
 returns-4 : tie.Need-returns-4
 unfolding slotNumber
-returns-4 c = simp (sym (c .before .before .before .before .before .same-slot .ensures) ∙ c .before .before .before .before .if1 .left, lt-leb _ _ (c .before .before .before .if2 .left), ← c .before .before .start-fits .ensures, sym (c .before .rec-ok .ensures) ∙ c .if4 .taken)
-
-returns-5 : tie.Need-returns-5
-unfolding slotNumber
-returns-5 c = simp (sym (c .before .before .before .before .before .same-slot .ensures) ∙ c .before .before .before .before .if1 .left, lt-leb _ _ (c .before .before .before .if2 .left), ← c .before .before .start-fits .ensures, sym (c .before .rec-ok .ensures) ∙ c .if4 .left)
+returns-4 c = simp (c .before .before .before .before .before .before .before .before .before .pre .2, lt-leb _ _ (c .before .before .before .if1 .left), ← c .before .before .start-fits .ensures, sym (c .before .rec-ok .ensures) ∙ c .if3 .left)
 
 pub slot-number-spec : {M : Type 1} → statement M
 slot-number-spec =
     tie.close
     (tie.spec
-    mul-at
-    same-slot-requires
-    returns
     mul-idx
     add-idx
+    mul-dates-only
     dates-only-requires
+    returns
     returns-2
-    returns-3
     start-fits-requires
     mul-rec-ok
     cast-rec-ok
     rec-ok-requires
-    returns-4
-    returns-5)
+    returns-3
+    returns-4)

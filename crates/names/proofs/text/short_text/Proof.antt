@@ -1,5 +1,8 @@
 use Rattle.names.specs.Held.{held}
-use Rattle.names.specs.TextLaws.{short-plain, short-dotted}
+use Rattle.names.specs.TextLaws.{push-room, short-plain, short-dotted}
+use lib.ListN.{take}
+use mathlib.Core.Path.{refl}
+use native.Mathlib.Omega.{arith}
 use borrow.Author.Needs.{needs}
 use Rattle.names.proofs.text.short_text.Statement.{statement}
 use Rattle.names.proofs.text.short_text.Tie as tie
@@ -7,40 +10,50 @@ use Rattle.names.proofs.text.short_text.Tie as tie
 add-dot : tie.Need-add-dot
 add-dot c = search needs
 
-empty-requires : tie.Need-empty-requires
-empty-requires c κs = search needs
+slice-aggregate-put-part : tie.Need-slice-aggregate-put-part
+slice-aggregate-put-part c = search needs
 
-with-part-requires : tie.Need-with-part-requires
-with-part-requires c κs = search needs
+put-part-requires : tie.Need-put-part-requires
+put-part-requires c κs = search needs
 
 shared-slice-read-if1 : tie.Need-shared-slice-read-if1
 shared-slice-read-if1 c = search needs
 
 returns : tie.Need-returns
-returns c = (c .before .before .with-part .ensures .0, short-plain _ _ (held (c .before .before .before .empty .result)) _ (c .before .before .before .empty .ensures .1) (c .before .before .with-part .ensures .1) (c .if1 .taken))
+unfolding held
+returns c = let p = c .before .before .before .put-part .ensures in (p .0 .0, short-plain _ _ _ (p .1) (c .if1 .taken))
 
-pushed-requires : tie.Need-pushed-requires
-pushed-requires c κs = search needs
+array-write-chars : tie.Need-array-write-chars
+array-write-chars c = search needs
 
-add-with-part : tie.Need-add-with-part
-add-with-part c = search needs
+slice-aggregate-put-part-2 : tie.Need-slice-aggregate-put-part-2
+slice-aggregate-put-part-2 c = search needs
 
-with-part-requires-2 : tie.Need-with-part-requires-2
-with-part-requires-2 c κs = search needs
+add-put-part : tie.Need-add-put-part
+add-put-part c = search needs
+
+add-put-part-2 : tie.Need-add-put-part-2
+add-put-part-2 c = search needs
+
+put-part-requires-2 : tie.Need-put-part-requires-2
+put-part-requires-2 c κs = search needs
 
 returns-2 : tie.Need-returns-2
-returns-2 c = (c .with-part2 .ensures .0, short-dotted _ _ (held (c .before .before .before .before .before .empty .result)) (held (c .before .before .before .before .with-part .result)) (c .before .before .before .before .before .empty .ensures .1) (c .before .before .before .before .with-part .ensures .1) (held (c .before .pushed .result)) _ (c .before .before .if1 .left) (c .before .pushed .ensures .1) (c .with-part2 .ensures .1))
+unfolding held
+returns-2 c = let p = c .before .before .before .before .before .before .put-part .ensures in (c .before .put-part2 .ensures .0 .0, short-dotted _ _ (take (c .before .before .before .before .before .before .put-part .result) (c .before .before .before .before .before .before .put-part .last .0)) (p .1) _ _ (c .before .before .before .if1 .left) (push-room _ _ (p .0 .2) (p .0 .0) _ _ refl (omega arith)) (c .before .put-part2 .ensures .1))
 
 pub short-text-spec : {M : Type 1} → statement M
 short-text-spec =
     tie.close
     (tie.spec
     add-dot
-    empty-requires
-    with-part-requires
+    slice-aggregate-put-part
+    put-part-requires
     shared-slice-read-if1
     returns
-    pushed-requires
-    add-with-part
-    with-part-requires-2
+    array-write-chars
+    slice-aggregate-put-part-2
+    add-put-part
+    add-put-part-2
+    put-part-requires-2
     returns-2)
