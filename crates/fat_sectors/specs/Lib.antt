@@ -6,3 +6,5 @@ pub mod NamedValues
 pub mod FatLaws
 pub mod Stores
 pub mod Scanned
+pub mod Changed
+pub mod LoopLaws

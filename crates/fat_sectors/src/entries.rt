@@ -2,6 +2,7 @@
 use clusters::is_nothing;
 use clusters::ours_live;
 use loops::Found;
+use slots::dates::same_slot;
 use state::pairs::pair_idx;
 use state::w::NPAIR;
 use state::w::Pair;
@@ -11,11 +12,13 @@ use vdisk::owner::Own;
 use vdisk::owner::owner;
 ghost use mathlib.Core.Path.{_≡_};
 ghost use mathlib.Core.Bool.{not, _&&_};
-ghost use Prim.Native.Nat.{ℕ, _*_, _<_};
+ghost use Prim.Native.Nat.{ℕ, _*_, _%_, _<_, _≤_};
 ghost use lib.Dec.{eqb};
 ghost use lib.ListN.{length};
 ghost use Rattle.loops.specs.Loops.{pick};
 ghost use Rattle.sector.specs.Bytes.{word};
+ghost use Rattle.slots.specs.Slots.{sameSlot};
+ghost use Rattle.fat_sectors.specs.Changed.{nextChanged};
 ghost use Rattle.fat_sectors.specs.Values.{fat1Passes, hostValue};
 ghost use Rattle.fat_sectors.specs.Fat.{fatWrite, zeroesFile, hostNumber, entryNumber, needsPair, freedBy};
 ghost use Rattle.fat_sectors.specs.Lent.{Lent};
@@ -56,6 +59,36 @@ pub fn is_changed(g: &[u8], d: &[u8], i: u32) -> bool
     let o = sector::le16(g, at);
     let n = sector::le16(d, at);
     o != n
+}
+
+// Are the 16 entries from `i` on, which fill a slot, as shown. Of an entry inside a slot nothing is said.
+pub fn same_sixteen(g: &[u8], d: &[u8], i: u32) -> bool
+    requires { ⌜ (length (now g) ≡ 512) × (length (now d) ≡ 512) × (i < 256) ⌝ }
+    ensures { λ r. ⌜ r ≡ (eqb (i % 16) 0 && sameSlot (now (g .entry)) (now (d .entry)) (i * 2)) ⌝ }
+{
+    if i % 16 != 0 {
+        return false;
+    }
+    same_slot(g, d, i as usize * 2)
+}
+
+// The next changed entry from `from` on, 256 where none is. Slots of 16 entries are compared at once.
+pub fn next_changed(g: &[u8], d: &[u8], from: u32) -> u32
+    requires { ⌜ (length (now g) ≡ 512) × (length (now d) ≡ 512) × (from ≤ 256) ⌝ }
+    ensures { λ r. ⌜ r ≡ nextChanged (now (g .entry)) (now (d .entry)) from ⌝ }
+{
+    let mut i = from;
+    while i < 256 {
+        if same_sixteen(g, d, i) {
+            i += 16;
+            continue;
+        }
+        if is_changed(g, d, i) {
+            return i;
+        }
+        i += 1;
+    }
+    i
 }
 
 // Are all entries of file `j` in the sector written 0: those from its first cluster in the sector to its last.

@@ -1,8 +1,8 @@
 // A written FAT sector: its refusal number, and what a taken one changes.
 use crate::entries::entry_number;
 use crate::entries::freed_by;
-use crate::entries::is_changed;
 use crate::entries::needs_pair;
+use crate::entries::next_changed;
 use crate::stores::Store;
 use crate::stores::pair_store;
 use crate::stores::unused_slot;
@@ -58,12 +58,8 @@ fn scan(
         rows: [0u8; MAX_VF],
     };
     let mut need = 0;
-    let mut i = 0;
+    let mut i = next_changed(g, d, 0);
     while i < 256 {
-        if !is_changed(g, d, i) {
-            i += 1;
-            continue;
-        }
         let no = entry_number(ids, starts, sizes, sorted, first, pair, s, g, d, i);
         if no != 0 {
             out.no = no;
@@ -71,16 +67,16 @@ fn scan(
         }
         if needs_pair(ids, starts, sizes, sorted, first, pair, s, g, d, i) {
             need += 1;
-            i += 1;
+            i = next_changed(g, d, i + 1);
             continue;
         }
         match freed_by(ids, starts, sizes, sorted, first, pair, s, g, d, i) {
             Found::At(j) => {
                 out.rows[j] = 1;
-                i += 1;
+                i = next_changed(g, d, i + 1);
             }
             Found::Nothing => {
-                i += 1;
+                i = next_changed(g, d, i + 1);
             }
         }
     }
@@ -123,12 +119,11 @@ fn apply_all(
 {
     let first = w.first;
     let mut out = w;
-    for i in 0..256 {
-        if !is_changed(g, d, i) {
-            continue;
-        }
+    let mut i = next_changed(g, d, 0);
+    while i < 256 {
         let c = s * 256 + i;
         let v = sector::le16(d, i as usize * 2);
+        i = next_changed(g, d, i + 1);
         if c == 1 {
             out.fat1 = v as u32 + 65536;
             continue;

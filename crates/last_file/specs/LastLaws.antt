@@ -41,7 +41,7 @@ less-one : (n : ℕ) → suc n - 1 ≡ n
 less-one n = omega arith
 
 module _ (c : ℕ) where
-  no-rows : (starts sizes : List ℕ) → length starts ≡ 0 → ownerAt (upTo starts c) starts sizes c ≡ Free
+  pub no-rows : (starts sizes : List ℕ) → length starts ≡ 0 → ownerAt (upTo starts c) starts sizes c ≡ Free
   unfolding ownerAt upTo last
   no-rows starts sizes e = rw e
 
@@ -50,7 +50,7 @@ module _ (c : ℕ) where
   up-to-last n starts e l = rw (e, l)
 
   -- the last of n + 1 files, where it starts at or before c
-  at-last : (n : ℕ) (starts sizes : List ℕ) → length starts ≡ suc n → leb (getD starts n 0) c ≡ true
+  pub at-last : (n : ℕ) (starts sizes : List ℕ) → length starts ≡ suc n → leb (getD starts n 0) c ≡ true
       → ownerAt (upTo starts c) starts sizes c ≡ pick (ltb c (getD starts n 0 + clustersOf (getD sizes n 0))) (Dyn n) Free
   unfolding ownerAt
   at-last n starts sizes e l = rw (up-to-last n starts e l, ne-eqb (suc n) 0 (λ z. omega (arith, z)), less-one n)

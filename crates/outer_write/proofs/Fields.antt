@@ -144,7 +144,7 @@ abbrev Field : {M : Type 1} {𝓤 : URA M} {H : Heap 𝓤} {A : Atoms 𝓤} (K :
 Field K W b o q h k τ d i = Part K W i q τ b (o + d) (getV (state-vals h) k) (λ u. ‵ (fat q (rawTy T′.mir) b o (vstruct (setV (state-vals h) k u))))
 
 module _ {M : Type 1} {𝓤 : URA M} {H : Heap 𝓤} {A : Atoms 𝓤} {K : Type 0} {W : Given 𝓤 H A} where
-  unraw : K → {i : Item 𝓤} {q : Share} {b o : ℕ} {v : Val} {back : Val → Item 𝓤} (τ : Ty) → Part K W i q (rawTy τ) b o v back → Part K W i q τ b o v back
+  pub unraw : K → {i : Item 𝓤} {q : Share} {b o : ℕ} {v : Val} {back : Val → Item 𝓤} (τ : Ty) → Part K W i q (rawTy τ) b o v back → Part K W i q τ b o v back
   unraw t {i} {q} {b} {o} {v} {back} τ p = record {
     out = qed W (i ∷ []) ∵ use1 W (‵ (fat q (rawTy τ) b o v) ⊛ raw (all 𝓤 (Back (rawTy τ)))) (p .out) $ split ! $ use1 W (‵ (fat q τ b o v)) (W .laws .raw-at q τ b o v) $ frame ! $
         each ! (Back τ) (λ u. assume {P = mean 𝓤 H A (back u)} ! (‵ (fat q τ b o u)) $ use1 W (‵ (fat q (rawTy τ) b o u)) (W .laws .at-raw q τ b o u) $ move ! (1 ∷ []) $

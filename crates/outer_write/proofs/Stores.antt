@@ -1,4 +1,4 @@
--- What the walks of `settled`, `staged` and `turned` know of LastFile, Settled, StagedLast, Asked and TurnedFile, and of the state's fields that they store.
+-- What the walks of `settled`, `staged`, `put_slot` and `turned` know of LastFile, Settled, StagedLast, Asked and TurnedFile, and of the state's fields that they store.
 use Prim.Native.Nat.{ℕ, _<_, _^_}
 use mathlib.Core.Bool.{Bool}
 use mathlib.Core.Path.{_≡_, refl, sym, ap, _∙_, subst}
@@ -14,7 +14,7 @@ use prog.Memory.{fieldOf}
 use prog.Wp.{Heap}
 use ghost.Atoms.{Atoms}
 use types.Kit.{Given}
-use denote.Array.{Array, each, arrayVal, array-lawful}
+use denote.Array.{Array, each, arrayVal}
 use denote.Laws.{Is, Makes}
 use denote.Shadow.{shadow}
 use denote.Steps.{only}
@@ -204,9 +204,6 @@ in-field xs vs is = (is .0, ((is .1 .0 .0, length-map xs (Q.the-type .to) ∙ is
 slots-tell : (xs : List St) (v : Val) → Is (Array Q.the-row 28) xs (v ∷ []) → v ∷ [] ≡ slots-val xs ∷ []
 slots-tell xs v is = LL.array-laws Q.the-field Q′.the-field-laws 28 .tells (map (Q.the-type .to) xs) (v ∷ []) (in-field xs (v ∷ []) is)
 
-pub slots-is : (xs : List St) (v : Val) → Is (Array Q.the-row 28) xs (v ∷ []) → v ≡ slots-val xs
-slots-is xs v is = ap only (slots-tell xs v is)
-
 pub slots-here : (xs : List St) (v : Val) → Is (Array Q.the-row 28) xs (v ∷ []) → SlotsAre xs
 slots-here xs v is = subst (λ (vs : List Val). Is (Array (Q.the-field .row) 28) (map (Q.the-type .to) xs) vs) (slots-tell xs v is) (in-field xs (v ∷ []) is)
 
@@ -238,8 +235,8 @@ module _ {M : Type 1} (𝓤 : URA M) (H : Heap 𝓤) (A : Atoms 𝓤) (W : Given
   pub records-typed : (r : Settled) (vs : List Val) → Is S.the-row r vs → Holds (hasTy (tyArray R′.mir 10) (records-val (r .rec))) × WT (records-val (r .rec))
   records-typed r vs is = S′.the-laws .1 .1 .1 .0 .lawful 𝓤 H A W .typed (map (R.the-type .to) (r .rec)) (records-val (r .rec) ∷ []) (LL.owed S.the-type S′.the-laws r vs is .1 .1 .1 .0) .0
 
-  pub slots-typed : (xs : List St) (v : Val) → Is (Array Q.the-row 28) xs (v ∷ []) → Holds (hasTy (tyArray Q′.mir 28) v) × WT v
-  slots-typed xs v is = array-lawful 𝓤 H A W Q.the-row (LL.lawful Q.the-type Q′.the-laws 𝓤 H A W) 28 .typed xs (v ∷ []) is .0
+  pub slot-typed : (y : St) (v : Val) → Is Q.the-row y (v ∷ []) → Holds (hasTy Q′.mir v) × WT v
+  slot-typed y v is = LL.lawful Q.the-type Q′.the-laws 𝓤 H A W .typed y (v ∷ []) is .0
 
   pub slot-makes : Makes 𝓤 H A Q.the-row (Is Q.the-row)
   slot-makes = LL.makes Q.the-type Q′.the-plain 𝓤 H A

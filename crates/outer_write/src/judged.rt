@@ -1,10 +1,13 @@
-// A written sector that needs more of the state: a directory is judged with the file that it asks for, other data staged or refused, any other sector settled where the table's last file is enough.
+// A written sector that needs more of the state: a directory is judged with the file that it asks for; other data is staged or refused; a FAT sector is refused where its first changed entry is, or judged by one file or by columns; any other sector is settled where the table's last file is enough.
+use crate::entry_refused::entry_refused;
+use crate::own_data::own_data;
 use crate::settled::settled;
-use crate::staged::staged;
 use crate::turned::turned;
 use file_table::VF;
 use state::w::W;
 use vdisk::drive::DATA_START;
+use vdisk::drive::FAT_START;
+use vdisk::drive::ROOT_START;
 ghost use mathlib.Core.Bool.{_&&_};
 ghost use mathlib.Core.Path.{_≡_};
 ghost use lib.Dec.{leb};
@@ -31,6 +34,19 @@ pub fn is_directory(lba: u32) -> bool
     true
 }
 
+// Is a sector one of the two FATs'.
+pub fn is_fat(lba: u32) -> bool
+    ensures { λ r. ⌜ r ≡ (leb 1 lba && leb lba 508) ⌝ }
+{
+    if lba < FAT_START {
+        return false;
+    }
+    if lba >= ROOT_START {
+        return false;
+    }
+    true
+}
+
 // A written sector is judged: the refusal number, 0 where it is taken.
 pub fn judged(
     w: &mut W,
@@ -51,7 +67,10 @@ pub fn judged(
         return turned(w, files, lba, shown, written, busy, fat, area);
     }
     if is_data(lba) {
-        return staged(w, files, lba, shown, written, busy, fat, area);
+        return own_data(w, files, lba, shown, written, busy, fat, area);
+    }
+    if is_fat(lba) {
+        return entry_refused(w, files, lba, shown, written, busy, fat, area);
     }
     settled(w, files, lba, shown, written, busy, fat, area)
 }

@@ -1,7 +1,7 @@
 // A written sector of data, staged or refused by what the table's last file says; else judged by columns.
 use crate::by_columns::by_columns;
+use crate::put_slot::put_slot;
 use file_table::VF;
-use stage_last::put_slot;
 use stage_last::stage_last;
 use state::w::W;
 use table_walks::last_of;
@@ -29,8 +29,7 @@ pub fn staged(
     let o = stage_last(*w, f, lba, shown, written, busy, fat, area);
     if o.settled {
         note_moves(files, written, o.marks);
-        let st = put_slot(w.st, o.i, o.y);
-        w.st = st;
+        put_slot(w, o.i, o.y);
         w.session = o.session;
         w.last = o.last;
         w.staging = o.staging;

@@ -5,23 +5,26 @@ use native.Mathlib.Omega.{arith}
 use mathlib.Core.Bool.{Bool, true, false}
 use mathlib.Core.List.{List, [], _∷_, map}
 use mathlib.Core.Path.{_≡_, refl, sym, ap, _∙_, subst}
-use lib.Dec.{eqb}
+use borrow.Author.Tests.{ne-eqb}
+use lib.Dec.{eqb, ltb}
 use lib.ListN.{length, getD, set, length-map}
 use Rattle.loops.specs.Loops.{pick}
 use Rattle.loops.specs.Found.{find, findFrom, find-start, find-go, find-stop, find-end}
+use Rattle.vdisk.specs.Owner.{upTo}
 use Rattle.file_table.specs.declared.VF.{VF}
 use Rattle.files.specs.Files.{idOf, dirSlotOf, startOf, sizeOf, withId, withIds}
 use Rattle.files.specs.FilesLaws.{same-ids}
+use Rattle.last_file.specs.FileBy.{fileUpTo}
 use Rattle.last_file.specs.declared.LastFile.{LastFile}
 use Rattle.turn_file.specs.TurnFile.{unturnedAt, unturnedRow, fileOf, withRow}
-use Rattle.row_walks.specs.Rows.{filesAsked}
+use Rattle.row_walks.specs.Rows.{filesAsked, filesBy}
 
 -- a row that stands for none
 abbrev pub noRow : VF
 noRow = record { id = 0; slot = 0; vstart = 0; src = 0; ssize = 0; vsize = 0 }
 
 -- an element of a column
-column-at : (g : VF → ℕ) → g noRow ≡ 0 → (fs : List VF) (i : ℕ) → g (getD fs i noRow) ≡ getD (map g fs) i 0
+pub column-at : (g : VF → ℕ) → g noRow ≡ 0 → (fs : List VF) (i : ℕ) → g (getD fs i noRow) ≡ getD (map g fs) i 0
 column-at g e [] i = e
 column-at g e (f ∷ fs) zero = refl
 column-at g e (f ∷ fs) (suc i) = column-at g e fs i
@@ -90,3 +93,29 @@ module _ (fs : List VF) (n id : ℕ) where
 
   pub put-row : eqb n 0 ≡ false → n - 1 < length fs → set fs (n - 1) (withId (getD fs (n - 1) noRow) id) ≡ withIdAt fs n id
   put-row e l = set-id fs (n - 1) id l ∙ sym (ap (λ (b : Bool). withIds fs (pick b (map idOf fs) (set (map idOf fs) (n - 1) id))) e)
+
+-- what is said of the last of n rows
+abbrev pub rowOf : ℕ → VF → LastFile
+rowOf n f = record { n = n; id = f .id; start = f .vstart; size = f .vsize }
+
+-- the last of n rows
+up-to-none : (fs : List VF) → record { n = 0; id = 0; start = 0; size = 0 } ≡ fileUpTo (map idOf fs) (map startOf fs) (map sizeOf fs) 0
+unfolding fileUpTo
+up-to-none fs = refl
+
+up-to-row : (fs : List VF) (n : ℕ) → 0 < n → rowOf n (getD fs (n - 1) noRow) ≡ fileUpTo (map idOf fs) (map startOf fs) (map sizeOf fs) n
+unfolding fileUpTo
+up-to-row fs n l =
+    (λ j. record { n = n; id = column-at idOf refl fs (n - 1) j; start = column-at startOf refl fs (n - 1) j; size = column-at sizeOf refl fs (n - 1) j })
+    ∙ sym (rw (ne-eqb n 0 (λ e. omega (arith, l, e))))
+
+module _ (first c : ℕ) (fs : List VF) where
+  pub by-own : ltb c first ≡ true → record { n = 0; id = 0; start = 0; size = 0 } ≡ filesBy first c fs
+  by-own e = up-to-none fs ∙ ap (λ (b : Bool). fileUpTo (map idOf fs) (map startOf fs) (map sizeOf fs) (pick b 0 (upTo (map startOf fs) c))) (sym e)
+
+  module _ (e : ltb c first ≡ false) where
+    pub by-none : 0 ≡ upTo (map startOf fs) c → record { n = 0; id = 0; start = 0; size = 0 } ≡ filesBy first c fs
+    by-none z = up-to-none fs ∙ (λ j. fileUpTo (map idOf fs) (map startOf fs) (map sizeOf fs) (pick (sym e j) 0 (z j)))
+
+    pub by-row : (n : ℕ) → 0 < n → n ≡ upTo (map startOf fs) c → rowOf n (getD fs (n - 1) noRow) ≡ filesBy first c fs
+    by-row n l z = up-to-row fs n l ∙ (λ j. fileUpTo (map idOf fs) (map startOf fs) (map sizeOf fs) (pick (sym e j) 0 (z j)))

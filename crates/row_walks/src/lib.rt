@@ -1,4 +1,7 @@
-// Thin walks of the lent table to one row: the file that a directory sector asks for, and one id stored.
+// Thin walks of the lent table to one row: the file that a directory sector asks for, the last that starts at or before a cluster, and one id stored.
+mod search;
+
+use crate::search::rows_by;
 use file_table::VF;
 use last_file::LastFile;
 use turn_file::is_unturned_at;
@@ -6,7 +9,7 @@ ghost use mathlib.Core.List.{map};
 ghost use mathlib.Core.Path.{_≡_};
 ghost use Rattle.files.specs.Files.{idOf, withIds};
 ghost use Rattle.turn_file.specs.TurnFile.{withRow};
-ghost use Rattle.row_walks.specs.Rows.{filesAsked};
+ghost use Rattle.row_walks.specs.Rows.{filesAsked, filesBy};
 
 // The first unturned file shown in directory `k` at slot `n`, with how many rows there are up to it; zeros where there is none.
 pub fn row_at(files: &[VF], k: u16, n: u32) -> LastFile
@@ -30,6 +33,36 @@ pub fn row_at(files: &[VF], k: u16, n: u32) -> LastFile
         id: 0,
         start: 0,
         size: 0,
+    }
+}
+
+// The last file that starts at or before cluster `c`, with how many rows there are up to it; zeros where there is none, or where the cluster is the drive's own.
+pub fn row_by(files: &[VF], first: u32, c: u32) -> LastFile
+    ensures { λ r. ⌜ r ≡ filesBy first c (now (files .entry)) ⌝ }
+{
+    if c < first {
+        return LastFile {
+            n: 0,
+            id: 0,
+            start: 0,
+            size: 0,
+        };
+    }
+    let n = rows_by(files, c);
+    if n == 0 {
+        return LastFile {
+            n: 0,
+            id: 0,
+            start: 0,
+            size: 0,
+        };
+    }
+    let f = files[n - 1];
+    LastFile {
+        n: n,
+        id: f.id,
+        start: f.vstart,
+        size: f.vsize,
     }
 }
 

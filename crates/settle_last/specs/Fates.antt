@@ -1,19 +1,17 @@
 -- How a sector is judged by the last file alone.
-use Prim.Native.Nat.{ℕ, _+_, _*_}
-use mathlib.Core.Bool.{Bool, true, false, not, _&&_, _||_}
+use Prim.Native.Nat.{ℕ, _*_}
+use mathlib.Core.Bool.{Bool, true, false, not, _||_}
 use mathlib.Core.List.{List}
-use lib.Dec.{eqb, ltb, leb}
+use lib.Dec.{eqb}
 use lib.ListN.{getD}
-use Rattle.loops.specs.Loops.{pick, all, first as firstOf}
-use Rattle.sector.specs.Bytes.{word, same}
-use Rattle.vdisk.specs.Drive.{lastCluster}
+use Rattle.loops.specs.Loops.{pick, all}
+use Rattle.sector.specs.Bytes.{same}
 use Rattle.vdisk.specs.declared.drive.Place.{Place}
 use Rattle.vdisk.specs.declared.drive.Place.the-variants.{Boot, Fat, Root, Data, Outside}
 use Rattle.slots.specs.Slots.{startOf, sameSlot}
 use Rattle.records.specs.declared.Rec.{Rec}
 use Rattle.state.specs.declared.w.Pair.{Pair}
 use Rattle.judge.specs.Classify.{bootPasses}
-use Rattle.fat_sectors.specs.Values.{fat1Passes}
 use Rattle.root_sectors.specs.Root.{RootWrite, rootWrite, rootNumber, rootChanged}
 use Rattle.root_sectors.specs.Records.{rootRecords}
 use Rattle.last_file.specs.LastFile.{lastIds, lastStarts, lastSizes, decides}
@@ -30,33 +28,6 @@ unfoldable pub bootFate : ℕ → List Rec → List ℕ → List ℕ → Fate
 bootFate boot recs shown written =
     pick (same shown written) (unsettled boot recs)
     (pick (bootPasses shown written) (fateAs true 0 true (getD written 0x25 0) recs) (fateAs true 3 false boot recs))
-
--- the number of a changed entry of the drive's own, 0 of any other
-unfoldable pub ownRefusal : ℕ → ℕ → ℕ → ℕ
-ownRefusal first c v =
-    pick (eqb c 0) 4
-    (pick (eqb c 1) (pick (fat1Passes v) 0 4)
-    (pick (ltb lastCluster c || ltb c first) 5 0))
-
--- a FAT sector without entries of the drive's own
-unfoldable pub noOwn : ℕ → ℕ → Bool
-noOwn first s = not (eqb s 0) && not (ltb (s * 256) first) && leb (s * 256 + 256) (lastCluster + 1)
-
-abbrev pub changed : List ℕ → List ℕ → ℕ → Bool
-changed shown written i = not (eqb (word shown (i * 2)) (word written (i * 2)))
-
-abbrev pub firstChanged : List ℕ → List ℕ → ℕ
-firstChanged shown written = firstOf (changed shown written) 256 0
-
-unfoldable pub fatRefusal : ℕ → ℕ → List ℕ → List ℕ → ℕ
-fatRefusal first s shown written =
-    pick (ltb (firstChanged shown written) 256)
-    (ownRefusal first (s * 256 + firstChanged shown written) (word written (firstChanged shown written * 2)))
-    0
-
-unfoldable pub fatFate : ℕ → List Rec → ℕ → ℕ → List ℕ → List ℕ → Fate
-fatFate boot recs first s shown written =
-    pick (eqb (fatRefusal first s shown written) 0) (unsettled boot recs) (fateAs true (fatRefusal first s shown written) false boot recs)
 
 -- a root slot is unchanged, or its start is 0 or one that the last file decides
 unfoldable pub slotDecided : LastFile → ℕ → List ℕ → List ℕ → ℕ → Bool
@@ -77,7 +48,7 @@ rootFate boot recs pairs first f s shown written =
 
 unfoldable pub fateAt : ℕ → ℕ → List Pair → List Rec → LastFile → List ℕ → List ℕ → Place → Fate
 fateAt boot first pairs recs f shown written Boot = bootFate boot recs shown written
-fateAt boot first pairs recs f shown written (Fat s) = fatFate boot recs first s shown written
+fateAt boot first pairs recs f shown written (Fat s) = unsettled boot recs
 fateAt boot first pairs recs f shown written (Root s) = rootFate boot recs pairs first f s shown written
 fateAt boot first pairs recs f shown written (Data c s) = unsettled boot recs
 fateAt boot first pairs recs f shown written Outside = unsettled boot recs

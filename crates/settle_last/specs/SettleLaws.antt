@@ -15,19 +15,17 @@ use Rattle.vdisk.specs.declared.drive.Place.the-variants.{Boot, Fat, Root, Data
 use Rattle.file_table.specs.Table.{tableOf, wholeColumns}
 use Rattle.state.specs.Setters.{withBoot, withRec, withSession, withLast, withErr, withN}
 use Rattle.state.specs.declared.w.W.{W}
-use Rattle.fat_sectors.specs.Fat.{FatWrite, fatNumber, fatState, fatIds}
 use Rattle.records.specs.declared.Rec.{Rec}
 use Rattle.root_sectors.specs.Root.{RootWrite, rootNumber, rootChanged, rootState}
 use Rattle.root_sectors.specs.Records.{rootRecords, state-records}
-use Rattle.judge.specs.Classify.{SectorWrite, sectorWrite, Outcome, unlessShown, bootPasses, boot, fatOf, fat, rootOf, root, atPlace, classify}
+use Rattle.judge.specs.Classify.{SectorWrite, sectorWrite, Outcome, unlessShown, bootPasses, boot, rootOf, root, atPlace, classify}
 use Rattle.write.specs.WriteLaws.{Leaves}
 use Rattle.tally.specs.Judged.{judgedBy, sectors-long, judged-leaves}
 use Rattle.tally.specs.Tally.{tallied, talliedIn, withTally}
 use Rattle.tally.specs.declared.Tallied.{Tallied}
 use Rattle.last_file.specs.LastFile.{lastIn}
 use Rattle.last_file.specs.declared.LastFile.{LastFile}
-use Rattle.settle_last.specs.Fates.{fateAs, unsettled, bootFate, fatRefusal, fatFate, rootDecided, rootLast, rootFate, fateAt}
-use Rattle.settle_last.specs.FatLaws.{refusal-number, refusal-other}
+use Rattle.settle_last.specs.Fates.{fateAs, unsettled, bootFate, rootDecided, rootLast, rootFate, fateAt}
 use Rattle.settle_last.specs.SameLaws.{same-number, same-changed, same-records}
 use Rattle.settle_last.specs.RootLaws.{number-same, changed-same, records-same}
 use Rattle.settle_last.specs.declared.fate.Fate.{Fate}
@@ -73,17 +71,6 @@ module _ (w : W) (lba : ℕ) (shown written : List ℕ) (busy : Bool) (fats area
           (pick b (fateAs true 0 true (getD written 0x25 0) (w .rec)) (fateAs true 3 false (w .boot) (w .rec)))
       passes true e = with-state _ _ (boot-taken (getD written 0x25 0))
       passes false e = with-state _ _ as-it-was
-
-  -- a refused FAT sector changes nothing
-  fat-refused : (s n : ℕ) → fatNumber (fatOf x w s) ≡ n → eqb n 0 ≡ false → fat x w s ≡ record { number = n; changed = false; w = w; ids = ids; area = area }
-  unfolding fat fatState fatIds
-  fat-refused s n e z = rw (e, z)
-
-  fat-is : (s : ℕ) → length shown ≡ 512 → Is (unlessShown x w (fat x w s)) (fatFate (w .boot) (w .rec) (w .first) s shown written)
-  unfolding fatFate
-  fat-is s m =
-      pick-by (Is (unlessShown x w (fat x w s))) (eqb (fatRefusal (w .first) s shown written) 0) _ _ (λ z e. absurd (false≢true e))
-      (λ z e. shown-not (fat x w s) (refusal-other (fatOf x w s) _ m refl z) ∙ fat-refused s _ (refusal-number (fatOf x w s) _ refl z) z ∙ with-state _ _ as-it-was)
 
   -- a root sector, with the last file for the table
   module _ (s : ℕ) (long : length starts ≡ length ids) where
@@ -134,7 +121,7 @@ module _ (w : W) (lba : ℕ) (shown written : List ℕ) (busy : Bool) (fats area
   placed : (p : Place) → length shown ≡ 512 → length starts ≡ length ids → Is (atPlace x w p) (fateAt (w .boot) (w .first) (w .pair) (w .rec) (lastIn ids starts sizes) shown written p)
   unfolding atPlace fateAt
   placed Boot m l = boot-is
-  placed (Fat s) m l = fat-is s m
+  placed (Fat s) m l = λ e. absurd (false≢true e)
   placed (Root s) m l = root-is s l m
   placed (Data c s) m l = λ e. absurd (false≢true e)
   placed Outside m l = λ e. absurd (false≢true e)

@@ -1,5 +1,4 @@
 // How a sector is judged by the last file alone.
-use crate::fat::fat_refusal;
 use crate::root::root_by_last;
 use crate::root::root_decided;
 use judge::boot::boot_passes;
@@ -14,7 +13,7 @@ ghost use mathlib.Core.Path.{_≡_};
 ghost use Prim.Native.Nat.{ℕ, _<_};
 ghost use lib.ListN.{length};
 ghost use Rattle.vdisk.specs.Drive.{placeOf};
-ghost use Rattle.settle_last.specs.Fates.{unsettled, bootFate, fatFate, rootFate, fateAt};
+ghost use Rattle.settle_last.specs.Fates.{unsettled, bootFate, rootFate, fateAt};
 
 // Is it so judged; the refusal number, 0 where the sector is taken; whether that opens the session; the boot byte and the records then.
 pub struct Fate {
@@ -63,23 +62,6 @@ fn boot_fate(boot: u8, rec: [Rec; NREC], g: &[u8], d: &[u8]) -> Fate
     }
 }
 
-fn fat_fate(boot: u8, rec: [Rec; NREC], first: u32, s: u32, g: &[u8], d: &[u8]) -> Fate
-    requires { ⌜ (length (now g) ≡ 512) × (length (now d) ≡ 512) × (s < 254) ⌝ }
-    ensures { λ r. ⌜ r ≡ fatFate boot rec first s (now (g .entry)) (now (d .entry)) ⌝ }
-{
-    let no = fat_refusal(first, s, g, d);
-    if no == 0 {
-        return not_settled(boot, rec);
-    }
-    Fate {
-        settled: true,
-        no: no,
-        changed: false,
-        boot: boot,
-        rec: rec,
-    }
-}
-
 fn root_fate(
     boot: u8,
     rec: [Rec; NREC],
@@ -107,7 +89,7 @@ fn root_fate(
     }
 }
 
-// Data is not judged here, nor a place outside the drive.
+// FAT sectors and data are not judged here, nor a place outside the drive.
 pub fn fate_of(
     boot: u8,
     first: u32,
@@ -123,7 +105,7 @@ pub fn fate_of(
 {
     match place_of(lba) {
         Place::Boot => boot_fate(boot, rec, g, d),
-        Place::Fat(s) => fat_fate(boot, rec, first, s, g, d),
+        Place::Fat(_) => not_settled(boot, rec),
         Place::Root(s) => root_fate(boot, rec, pair, first, f, s, g, d),
         Place::Data(_, _) => not_settled(boot, rec),
         Place::Outside => not_settled(boot, rec),

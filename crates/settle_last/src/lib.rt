@@ -1,5 +1,4 @@
 // Sectors that neither stage data nor mark files, settled by the table's last file.
-pub mod fat;
 pub mod fate;
 pub mod root;
 

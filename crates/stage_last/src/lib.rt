@@ -1,6 +1,7 @@
 // Data sectors that the table's last file decides: staged in a host cluster, or refused.
 pub mod data;
 pub mod marks;
+pub mod own;
 
 use crate::data::early_last;
 use crate::data::here_of;
@@ -9,13 +10,11 @@ use last_file::LastFile;
 use stage::fate::keep;
 use stage::fate_in;
 use stage::slot::slot_for;
-use state::w::NST;
 use state::w::St;
 use state::w::Stats;
 use state::w::W;
 use tally::tally;
 ghost use mathlib.Core.Path.{_≡_};
-ghost use lib.ListN.{set};
 ghost use Rattle.loops.specs.Loops.{pick};
 ghost use Rattle.stage_last.specs.StageLast.{StagesAt, notedId};
 
@@ -77,18 +76,6 @@ pub fn stage_last(
         ver: k.ver,
         n: counts,
     }
-}
-
-// Slot `i` set to `y`.
-pub fn put_slot(st: [St; NST], i: usize, y: St) -> [St; NST]
-    ensures { λ r. ⌜ r ≡ set st i y ⌝ }
-{
-    let mut out = st;
-    if i < NST {
-        out[i] = y;
-        return out;
-    }
-    out
 }
 
 // An id, moved where the file is turned and the data names it.

@@ -1,5 +1,6 @@
 // What a judged sector leaves in the session flag, the last time, the error and the counts.
 pub mod judged;
+pub mod refused;
 
 use state::w::Stats;
 use write::settle::error_of;

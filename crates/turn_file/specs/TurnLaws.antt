@@ -32,22 +32,22 @@ module _ (p q : ℕ → Bool) where
   all-same zero i f = refl
   all-same (suc n) i f = rw (f i (omega arith), all-same n (i + 1) (λ k h. f k (omega arith)))
 
-  some-same : (n i : ℕ) → ((k : ℕ) → k < i + n → p k ≡ q k) → some p n i ≡ some q n i
+  pub some-same : (n i : ℕ) → ((k : ℕ) → k < i + n → p k ≡ q k) → some p n i ≡ some q n i
   unfolding some
   some-same zero i f = refl
   some-same (suc n) i f = rw (f i (omega arith), some-same n (i + 1) (λ k h. f k (omega arith)))
 
-some-none : (p : ℕ → Bool) (n i : ℕ) → ((k : ℕ) → k < i + n → p k ≡ false) → some p n i ≡ false
+pub some-none : (p : ℕ → Bool) (n i : ℕ) → ((k : ℕ) → k < i + n → p k ≡ false) → some p n i ≡ false
 unfolding some
 some-none p zero i f = refl
 some-none p (suc n) i f = rw (f i (omega arith), some-none p n (i + 1) (λ k h. f k (omega arith)))
 
 -- rows that all stay
-rows-stay : (f : ℕ → ℕ → ℕ) (xs : List ℕ) → ((j : ℕ) → f j (getD xs j 0) ≡ getD xs j 0) → rowsOf f xs ≡ xs
+pub rows-stay : (f : ℕ → ℕ → ℕ) (xs : List ℕ) → ((j : ℕ) → f j (getD xs j 0) ≡ getD xs j 0) → rowsOf f xs ≡ xs
 rows-stay f xs e = let n = rows-length f 0 xs in ext-getD 0 (rowsOf f xs) xs n (λ j h. rows-at f xs j (omega (arith, n, h)) ∙ e j)
 
 -- rows that all stay but row j
-rows-one : (f : ℕ → ℕ → ℕ) (xs : List ℕ) (j v : ℕ) → f j (getD xs j 0) ≡ v → ((i : ℕ) → (i ≡ j → ⊥) → f i (getD xs i 0) ≡ getD xs i 0) → rowsOf f xs ≡ set xs j v
+pub rows-one : (f : ℕ → ℕ → ℕ) (xs : List ℕ) (j v : ℕ) → f j (getD xs j 0) ≡ v → ((i : ℕ) → (i ≡ j → ⊥) → f i (getD xs i 0) ≡ getD xs i 0) → rowsOf f xs ≡ set xs j v
 rows-one f xs j v e g =
     let n = rows-length f 0 xs in
     ext-getD 0 (rowsOf f xs) (set xs j v) (n ∙ sym (length-set xs j v))
@@ -111,7 +111,7 @@ unfolding turnsRow pickedBy isAt
 none-turned x g m = some-none (λ i. isAt m (turnedBy x i)) 16 0 (λ i h. ap (isAt m) (g i (omega (arith, h))))
 
 -- the rows of the whole table, where those of the other are row j alone
-pick-row : (b : Bool) (f g : ℕ → ℕ → ℕ) (ids : List ℕ) (j : ℕ) → rowsOf f ids ≡ set ids j (g 0 (getD ids j 0))
+pub pick-row : (b : Bool) (f g : ℕ → ℕ → ℕ) (ids : List ℕ) (j : ℕ) → rowsOf f ids ≡ set ids j (g 0 (getD ids j 0))
     → pick b (rowsOf f ids) ids ≡ set ids j (getD (pick b (rowsOf g (getD ids j 0 ∷ [])) (getD ids j 0 ∷ [])) 0 (getD ids j 0))
 unfolding rowsFrom
 pick-row true f g ids j e = e
