@@ -1,9 +1,9 @@
 // A written sector that needs more of the state: a directory is judged with the file that it asks for; other data is staged or refused; a FAT sector is refused where its first changed entry is, or judged by one file or by columns; any other sector is settled where the table's last file is enough.
-use crate::entry_refused::entry_refused;
-use crate::own_data::own_data;
 use crate::settled::settled;
 use crate::turned::turned;
 use file_table::VF;
+use outer_data::own_data::own_data;
+use outer_fat::entry_refused::entry_refused;
 use state::w::W;
 use vdisk::drive::DATA_START;
 use vdisk::drive::FAT_START;

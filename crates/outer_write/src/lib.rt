@@ -1,10 +1,4 @@
-// A written sector over the lent state and table, which are changed in place.
-pub mod by_columns;
-pub mod entry_refused;
-pub mod freed;
+// A written sector over the lent state and table, which are changed in place: handed on by where it lies, a directory judged with the file that it asks for, any other sector settled by the last file.
 pub mod judged;
-pub mod own_data;
-pub mod put_slot;
 pub mod settled;
-pub mod staged;
 pub mod turned;

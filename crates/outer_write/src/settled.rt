@@ -1,6 +1,6 @@
 // A written sector that needs more of the state: settled by the table's last file where that does, else judged by columns.
-use crate::by_columns::by_columns;
 use file_table::VF;
+use outer_columns::by_columns;
 use settle_last::settle;
 use state::w::W;
 use table_walks::last_of;

@@ -1,6 +1,6 @@
 // A written sector of a directory, judged with the file that it asks for where that is enough; else by columns.
-use crate::by_columns::by_columns;
 use file_table::VF;
+use outer_columns::by_columns;
 use row_walks::put_id;
 use row_walks::row_at;
 use state::w::W;

@@ -32,7 +32,7 @@ use Rattle.session_calls.proofs.EndAnswer as R
 use Rattle.session_calls.proofs.EndAnswer.Laws as R′
 use Rattle.session_calls.proofs.Closed as O
 use Rattle.session_calls.proofs.Closed.Laws as O′
-use Rattle.outer_write.proofs.Session.{val}
+use Rattle.outer_columns.proofs.Session.{val}
 
 -- the machine values
 abbrev pub answer-val : EndAnswer → Val

@@ -14,7 +14,7 @@ use denote.Steps.{shuts}
 use denote.Triple.Walked.{stay-none-ref, goes-none-ref}
 use Rattle.files.proofs.Outer.{looked, answered, gone}
 use Rattle.files.proofs.Locals.{alloc-all}
-use Rattle.outer_write.proofs.Session.{val, state-typed, state-makes}
+use Rattle.outer_columns.proofs.Session.{val, state-typed, state-makes}
 use denote.Struct.Laws as LL
 use Rattle.chains.specs.declared.Chain.{Chain}
 use Rattle.chains.proofs.Chain as R

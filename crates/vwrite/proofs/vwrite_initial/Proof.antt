@@ -11,8 +11,8 @@ use types.Kit.{runs, atRet, Sq}
 use denote.Memory.{pointee}
 use Rattle.files.proofs.Outer.{opened, closed, answered, gone}
 use Rattle.files.proofs.Locals.{alloc-all}
-use Rattle.outer_write.proofs.Session.{state-typed}
-use Rattle.outer_write.proofs.Session.{state-is, state-holds}
+use Rattle.outer_columns.proofs.Session.{state-typed}
+use Rattle.outer_columns.proofs.Session.{state-is, state-holds}
 use Rattle.state.specs.State.{initial}
 use Rattle.state.specs.declared.w.W.{W as Ses}
 use Rattle.state.proofs.w.W as T

@@ -15,7 +15,7 @@ use Rattle.files.proofs.Outer.{answered, gone}
 use Rattle.files.proofs.Locals.{alloc-all}
 use Rattle.files.proofs.Files.{columns-typed, columns-make}
 use denote.Struct.Laws as LL
-use Rattle.outer_write.proofs.Table.{Load, reads}
+use Rattle.outer_columns.proofs.Table.{Load, reads}
 use Rattle.files.specs.declared.Columns.{Columns}
 use Rattle.file_table.specs.declared.VF.{VF}
 use Rattle.state_calls.specs.Answers.{filesOwner, columnsOwner}

@@ -24,8 +24,8 @@ use Rattle.files.proofs.Outer.{opened, closed, answered, gone}
 use Rattle.files.proofs.Rows.{let-go}
 use Rattle.files.proofs.Mixed.{holds}
 use Rattle.files.proofs.Locals.{alloc-all}
-use Rattle.outer_write.proofs.Session.{val}
-use Rattle.outer_write.proofs.Fields.{stats-val, early-val, early-is, tally-is, number-early, now-fits, last-fits, err-fits, stats-of, tally-last, tally-err, tally-stats, tallied-holds, early-typed, tally-typed, stats-typed, stats-makes, rw-at, last-at, now-at, err-at, stats-at, look-rw, look-last, look-now, look-err, look-stats, store-last, store-err, store-stats}
+use Rattle.outer_columns.proofs.Session.{val}
+use Rattle.outer_columns.proofs.Fields.{stats-val, early-val, early-is, tally-is, number-early, now-fits, last-fits, err-fits, stats-of, tally-last, tally-err, tally-stats, tallied-holds, early-typed, tally-typed, stats-typed, stats-makes, rw-at, last-at, now-at, err-at, stats-at, look-rw, look-last, look-now, look-err, look-stats, store-last, store-err, store-stats}
 use Rattle.files.specs.Files.{withIds}
 use Rattle.table_calls.specs.Calls.{filesWritten}
 use Rattle.table_calls.specs.CallLaws.{early-by}

@@ -42,16 +42,16 @@ use Rattle.outer_write.proofs.judged.is_data as g₃
 use Rattle.outer_write.proofs.judged.is_data.Symbol as g₃-def
 use Rattle.outer_write.proofs.judged.is_data.Symbol.{name as #g₃}
 use Rattle.outer_write.proofs.judged.is_data.Met as g₃-thm
-use Rattle.outer_write.proofs.own_data.own_data.Symbol as g₄-def
-use Rattle.outer_write.proofs.own_data.own_data.Symbol.{name as #g₄}
-use Rattle.outer_write.proofs.own_data.own_data.Met as g₄-thm
+use Rattle.outer_data.proofs.own_data.own_data.Symbol as g₄-def
+use Rattle.outer_data.proofs.own_data.own_data.Symbol.{name as #g₄}
+use Rattle.outer_data.proofs.own_data.own_data.Met as g₄-thm
 use Rattle.outer_write.proofs.judged.is_fat as g₅
 use Rattle.outer_write.proofs.judged.is_fat.Symbol as g₅-def
 use Rattle.outer_write.proofs.judged.is_fat.Symbol.{name as #g₅}
 use Rattle.outer_write.proofs.judged.is_fat.Met as g₅-thm
-use Rattle.outer_write.proofs.entry_refused.entry_refused.Symbol as g₆-def
-use Rattle.outer_write.proofs.entry_refused.entry_refused.Symbol.{name as #g₆}
-use Rattle.outer_write.proofs.entry_refused.entry_refused.Met as g₆-thm
+use Rattle.outer_fat.proofs.entry_refused.entry_refused.Symbol as g₆-def
+use Rattle.outer_fat.proofs.entry_refused.entry_refused.Symbol.{name as #g₆}
+use Rattle.outer_fat.proofs.entry_refused.entry_refused.Met as g₆-thm
 use Rattle.outer_write.proofs.settled.settled.Symbol as g₇-def
 use Rattle.outer_write.proofs.settled.settled.Symbol.{name as #g₇}
 use Rattle.outer_write.proofs.settled.settled.Met as g₇-thm
@@ -294,7 +294,7 @@ judged-spec 𝓤 H 𝓜 𝓖 𝓡 =
     (cited 𝓤 H (IsDirectory 𝓤 H (𝓖 .A) (𝓜 .mem) (𝓡 .run)) 𝓜 𝓡 code.env #g₁ g₁-def.routine code.calls-outer-write·judged·is-directory (g₁-thm.met 𝓤 H 𝓜 𝓖 𝓡))
     (cited 𝓤 H (Judged 𝓤 H (𝓖 .A) (𝓜 .mem) (𝓡 .run)) 𝓜 𝓡 code.env #g₂ g₂-def.routine code.calls-outer-write·turned·turned (g₂-thm.met 𝓤 H 𝓜 𝓖 𝓡))
     (cited 𝓤 H (IsData 𝓤 H (𝓖 .A) (𝓜 .mem) (𝓡 .run)) 𝓜 𝓡 code.env #g₃ g₃-def.routine code.calls-outer-write·judged·is-data (g₃-thm.met 𝓤 H 𝓜 𝓖 𝓡))
-    (cited 𝓤 H (Judged 𝓤 H (𝓖 .A) (𝓜 .mem) (𝓡 .run)) 𝓜 𝓡 code.env #g₄ g₄-def.routine code.calls-outer-write·own-data·own-data (g₄-thm.met 𝓤 H 𝓜 𝓖 𝓡))
+    (cited 𝓤 H (Judged 𝓤 H (𝓖 .A) (𝓜 .mem) (𝓡 .run)) 𝓜 𝓡 code.env #g₄ g₄-def.routine code.calls-outer-data·own-data·own-data (g₄-thm.met 𝓤 H 𝓜 𝓖 𝓡))
     (cited 𝓤 H (IsFat 𝓤 H (𝓖 .A) (𝓜 .mem) (𝓡 .run)) 𝓜 𝓡 code.env #g₅ g₅-def.routine code.calls-outer-write·judged·is-fat (g₅-thm.met 𝓤 H 𝓜 𝓖 𝓡))
-    (cited 𝓤 H (Judged 𝓤 H (𝓖 .A) (𝓜 .mem) (𝓡 .run)) 𝓜 𝓡 code.env #g₆ g₆-def.routine code.calls-outer-write·entry-refused·entry-refused (g₆-thm.met 𝓤 H 𝓜 𝓖 𝓡))
+    (cited 𝓤 H (Judged 𝓤 H (𝓖 .A) (𝓜 .mem) (𝓡 .run)) 𝓜 𝓡 code.env #g₆ g₆-def.routine code.calls-outer-fat·entry-refused·entry-refused (g₆-thm.met 𝓤 H 𝓜 𝓖 𝓡))
     (cited 𝓤 H (Judged 𝓤 H (𝓖 .A) (𝓜 .mem) (𝓡 .run)) 𝓜 𝓡 code.env #g₇ g₇-def.routine code.calls-outer-write·settled·settled (g₇-thm.met 𝓤 H 𝓜 𝓖 𝓡)))

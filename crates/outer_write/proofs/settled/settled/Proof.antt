@@ -25,10 +25,11 @@ use Rattle.files.proofs.Outer.{opened, closed, answered, gone}
 use Rattle.files.proofs.Rows.{let-go}
 use Rattle.files.proofs.Mixed.{holds}
 use Rattle.files.proofs.Locals.{alloc-all}
-use Rattle.outer_write.proofs.Session.{val, state-typed, state-makes}
-use Rattle.outer_write.proofs.Fields.{last-at, err-at, stats-at, store-field, store-last, store-err, store-stats}
-use Rattle.outer_write.proofs.Stores.{settled-val, settled-is, settled-here, number-settled, boot-at, rec-at, session-at, boot-stored, records-stored, session-stored, settled-holds, last-typed, last-makes, settled-typed, records-typed}
-use Rattle.outer_write.proofs.Last.{LastOf, lasts}
+use Rattle.outer_columns.proofs.Session.{val, state-typed, state-makes}
+use Rattle.outer_columns.proofs.Fields.{last-at, err-at, stats-at, store-field, store-last, store-err, store-stats}
+use Rattle.outer_write.proofs.Stores.{settled-val, settled-is, settled-here, number-settled, boot-at, rec-at, boot-stored, records-stored, settled-holds, settled-typed, records-typed}
+use Rattle.outer_columns.proofs.Stores.{session-at, session-stored, last-typed, last-makes}
+use Rattle.outer_columns.proofs.Last.{LastOf, lasts}
 use Rattle.files.specs.Files.{withIds}
 use Rattle.table_calls.specs.Calls.{filesWritten}
 use Rattle.table_calls.specs.LastLaws.{settled-by-last}
@@ -54,10 +55,10 @@ use Rattle.settle_last.proofs.settle as g₂
 use Rattle.settle_last.proofs.settle.Symbol as g₂-def
 use Rattle.settle_last.proofs.settle.Symbol.{name as #g₂}
 use Rattle.settle_last.proofs.settle.Met as g₂-thm
-use Rattle.outer_write.proofs.by_columns.by_columns as g₃
-use Rattle.outer_write.proofs.by_columns.by_columns.Symbol as g₃-def
-use Rattle.outer_write.proofs.by_columns.by_columns.Symbol.{name as #g₃}
-use Rattle.outer_write.proofs.by_columns.by_columns.Met as g₃-thm
+use Rattle.outer_columns.proofs.by_columns as g₃
+use Rattle.outer_columns.proofs.by_columns.Symbol as g₃-def
+use Rattle.outer_columns.proofs.by_columns.Symbol.{name as #g₃}
+use Rattle.outer_columns.proofs.by_columns.Met as g₃-thm
 use Rattle.outer_write.proofs.settled.settled.Key.{name as #f}
 use Rattle.outer_write.proofs.settled.settled as f
 use Rattle.outer_write.proofs.settled.settled.Statement as stated
@@ -273,4 +274,4 @@ settled-spec 𝓤 H 𝓜 𝓖 𝓡 =
     (meets 𝓤 H (𝓖 .A) (givenOf 𝓤 H 𝓜 𝓖) (𝓜 .mem) (𝓡 .run) (tablesOf 𝓤 H 𝓜 (tables 𝓤 H 𝓜 𝓡 code.env))
     (cited 𝓤 H (LastOf 𝓤 H (𝓖 .A) (𝓜 .mem) (𝓡 .run)) 𝓜 𝓡 code.env #g₁ g₁-def.routine code.calls-table-walks·last-of (g₁-thm.met 𝓤 H 𝓜 𝓖 𝓡))
     (cited 𝓤 H (Settle 𝓤 H (𝓖 .A) (𝓜 .mem) (𝓡 .run)) 𝓜 𝓡 code.env #g₂ g₂-def.routine code.calls-settle-last·settle (g₂-thm.met 𝓤 H 𝓜 𝓖 𝓡))
-    (cited 𝓤 H (ByColumns 𝓤 H (𝓖 .A) (𝓜 .mem) (𝓡 .run)) 𝓜 𝓡 code.env #g₃ g₃-def.routine code.calls-outer-write·by-columns·by-columns (g₃-thm.met 𝓤 H 𝓜 𝓖 𝓡)))
+    (cited 𝓤 H (ByColumns 𝓤 H (𝓖 .A) (𝓜 .mem) (𝓡 .run)) 𝓜 𝓡 code.env #g₃ g₃-def.routine code.calls-outer-columns·by-columns (g₃-thm.met 𝓤 H 𝓜 𝓖 𝓡)))

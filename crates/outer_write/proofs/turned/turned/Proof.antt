@@ -26,10 +26,12 @@ use Rattle.files.proofs.Outer.{opened, closed, answered, gone}
 use Rattle.files.proofs.Rows.{let-go}
 use Rattle.files.proofs.Mixed.{holds, fails}
 use Rattle.files.proofs.Locals.{alloc-all}
-use Rattle.outer_write.proofs.Session.{val, state-typed}
-use Rattle.outer_write.proofs.Fields.{last-at, err-at, stats-at, store-field, store-last, store-err, store-stats}
-use Rattle.outer_write.proofs.Stores.{last-val, last-is, last-here, asked-val, asked-is, turned-val, turned-is, turned-here, number-turned, session-at, session-stored, turned-holds, last-typed, asked-typed, turned-typed}
-use Rattle.outer_write.proofs.Turn.{FileAsked, RowAt, TurnFile, PutId, asks, finds, turns, puts}
+use Rattle.outer_columns.proofs.Session.{val, state-typed}
+use Rattle.outer_columns.proofs.Fields.{last-at, err-at, stats-at, store-field, store-last, store-err, store-stats}
+use Rattle.outer_columns.proofs.Stores.{last-val, last-is, last-here, session-at, session-stored, last-typed}
+use Rattle.outer_write.proofs.Stores.{asked-val, asked-is, turned-val, turned-is, turned-here, number-turned, turned-holds, asked-typed, turned-typed}
+use Rattle.outer_write.proofs.Turn.{FileAsked, RowAt, TurnFile, asks, finds, turns}
+use Rattle.outer_columns.proofs.Ids.{PutId, puts}
 use Rattle.files.specs.Files.{withIds}
 use Rattle.table_calls.specs.Calls.{filesWritten}
 use Rattle.table_calls.specs.LastLaws.{turned-by-file}
@@ -62,10 +64,10 @@ use Rattle.turn_file.proofs.turn_file.Met as g₃-thm
 use Rattle.row_walks.proofs.put_id.Symbol as g₄-def
 use Rattle.row_walks.proofs.put_id.Symbol.{name as #g₄}
 use Rattle.row_walks.proofs.put_id.Met as g₄-thm
-use Rattle.outer_write.proofs.by_columns.by_columns as g₅
-use Rattle.outer_write.proofs.by_columns.by_columns.Symbol as g₅-def
-use Rattle.outer_write.proofs.by_columns.by_columns.Symbol.{name as #g₅}
-use Rattle.outer_write.proofs.by_columns.by_columns.Met as g₅-thm
+use Rattle.outer_columns.proofs.by_columns as g₅
+use Rattle.outer_columns.proofs.by_columns.Symbol as g₅-def
+use Rattle.outer_columns.proofs.by_columns.Symbol.{name as #g₅}
+use Rattle.outer_columns.proofs.by_columns.Met as g₅-thm
 use Rattle.outer_write.proofs.turned.turned.Key.{name as #f}
 use Rattle.outer_write.proofs.turned.turned as f
 use Rattle.outer_write.proofs.turned.turned.Statement as stated
@@ -275,4 +277,4 @@ turned-spec 𝓤 H 𝓜 𝓖 𝓡 =
     (cited 𝓤 H (RowAt 𝓤 H (𝓖 .A) (𝓜 .mem) (𝓡 .run)) 𝓜 𝓡 code.env #g₂ g₂-def.routine code.calls-row-walks·row-at (g₂-thm.met 𝓤 H 𝓜 𝓖 𝓡))
     (cited 𝓤 H (TurnFile 𝓤 H (𝓖 .A) (𝓜 .mem) (𝓡 .run)) 𝓜 𝓡 code.env #g₃ g₃-def.routine code.calls-turn-file·turn-file (g₃-thm.met 𝓤 H 𝓜 𝓖 𝓡))
     (cited 𝓤 H (PutId 𝓤 H (𝓖 .A) (𝓜 .mem) (𝓡 .run)) 𝓜 𝓡 code.env #g₄ g₄-def.routine code.calls-row-walks·put-id (g₄-thm.met 𝓤 H 𝓜 𝓖 𝓡))
-    (cited 𝓤 H (ByColumns 𝓤 H (𝓖 .A) (𝓜 .mem) (𝓡 .run)) 𝓜 𝓡 code.env #g₅ g₅-def.routine code.calls-outer-write·by-columns·by-columns (g₅-thm.met 𝓤 H 𝓜 𝓖 𝓡)))
+    (cited 𝓤 H (ByColumns 𝓤 H (𝓖 .A) (𝓜 .mem) (𝓡 .run)) 𝓜 𝓡 code.env #g₅ g₅-def.routine code.calls-outer-columns·by-columns (g₅-thm.met 𝓤 H 𝓜 𝓖 𝓡)))

@@ -19,8 +19,8 @@ use Rattle.files.proofs.Outer.{opened, closed, answered, gone}
 use Rattle.files.proofs.Rows.{opened as opened-row, closed as closed-row}
 use Rattle.files.proofs.Locals.{alloc-all}
 use Rattle.files.proofs.Files.{columns-typed, columns-make}
-use Rattle.outer_write.proofs.Session.{val, state-typed, state-makes}
-use Rattle.outer_write.proofs.Table.{Load, SetIds, loads, sets}
+use Rattle.outer_columns.proofs.Session.{val, state-typed, state-makes}
+use Rattle.outer_columns.proofs.Table.{Load, SetIds, loads, sets}
 use Rattle.vwrite_sessions.proofs.Closed.{answer-val, ids-in, answer-of, state-of, ids-of, closed-is, closed-typed, answer-typed, answer-makes, Left, settles}
 use Rattle.release.specs.Release.{releaseAllCall}
 use Rattle.session_calls.specs.CallLaws.{LeavesColumns, release-all-down}

@@ -18,7 +18,7 @@ use Rattle.files.proofs.Outer.{opened, answered, gone}
 use Rattle.files.proofs.Rows.{opened as opened-row, closed as closed-row}
 use Rattle.files.proofs.Locals.{alloc-all}
 use Rattle.files.proofs.Files.{map-same, columns-typed, columns-make}
-use Rattle.outer_write.proofs.Table.{Load, SetIds, loads, sets}
+use Rattle.outer_columns.proofs.Table.{Load, SetIds, loads, sets}
 use Rattle.file_table.specs.declared.VF.{VF}
 use Rattle.files.specs.declared.Columns.{Columns}
 use Rattle.file_table.proofs.VF as F

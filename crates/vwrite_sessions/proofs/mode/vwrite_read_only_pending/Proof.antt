@@ -17,7 +17,7 @@ use denote.Steps.{shuts}
 use denote.Triple.Walked.{stay-none-ref, goes-none-ref}
 use Rattle.files.proofs.Outer.{looked, answered, gone}
 use Rattle.files.proofs.Locals.{alloc-all}
-use Rattle.outer_write.proofs.Session.{val, state-typed, state-makes}
+use Rattle.outer_columns.proofs.Session.{val, state-typed, state-makes}
 use Rattle.sessions.specs.Sessions.{readOnlyPending}
 use Rattle.state.specs.declared.w.W.{W as Ses}
 use Rattle.state.proofs.w.W as T

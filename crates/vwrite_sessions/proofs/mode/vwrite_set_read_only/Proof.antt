@@ -15,7 +15,7 @@ use denote.Memory.{pointee}
 use denote.Plain.{bool-vals, bool-tells, bool-makes}
 use Rattle.files.proofs.Outer.{opened, closed, answered, gone}
 use Rattle.files.proofs.Locals.{alloc-all}
-use Rattle.outer_write.proofs.Session.{val, state-typed, state-is, state-holds, state-makes}
+use Rattle.outer_columns.proofs.Session.{val, state-typed, state-is, state-holds, state-makes}
 use Rattle.sessions.specs.Sessions.{setReadOnly}
 use Rattle.state.specs.declared.w.W.{W as Ses}
 use Rattle.state.proofs.w.W as T

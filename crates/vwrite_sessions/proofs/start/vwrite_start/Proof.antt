@@ -16,8 +16,8 @@ use denote.Struct.Laws as LL
 use Rattle.files.proofs.Outer.{opened, closed, answered, gone}
 use Rattle.files.proofs.Locals.{alloc-all}
 use Rattle.files.proofs.Files.{columns-typed, columns-make}
-use Rattle.outer_write.proofs.Session.{val, state-typed, state-makes}
-use Rattle.outer_write.proofs.Table.{Load, reads}
+use Rattle.outer_columns.proofs.Session.{val, state-typed, state-makes}
+use Rattle.outer_columns.proofs.Table.{Load, reads}
 use Rattle.file_table.specs.declared.VF.{VF}
 use Rattle.files.specs.declared.Columns.{Columns}
 use Rattle.file_table.proofs.VF as F
