@@ -1,6 +1,6 @@
 -- What a taken sector changes, place by place, and that nothing else does (document 01, "Judging a sector"). o is how `classify` judged it.
 use Prim.Native.Nat.{ℕ, _+_, _-_, _*_, _<_}
-use mathlib.Core.Bool.{Bool, true, false, not, _&&_}
+use mathlib.Core.Bool.{Bool, true, false, not, _&&_, _||_}
 use mathlib.Core.List.{List}
 use mathlib.Core.Path.{_≡_}
 use lib.Dec.{leb, ltb, eqb}
@@ -15,48 +15,43 @@ use Rattle.vdisk.specs.Drive.{dirKindOf}
 use Rattle.vdisk.specs.Ids.{turned}
 use Rattle.vdisk.specs.declared.drive.Place.{Place}
 use Rattle.vdisk.specs.declared.drive.Place.the-variants.{Boot, Fat, Root, Data, Outside}
+use Rattle.vdisk.specs.declared.owner.Own.the-variants.{Dyn}
 use Rattle.vdisk.specs.declared.drive.DirKind.{DirKind}
 use Rattle.vdisk.specs.declared.drive.DirKind.the-variants.{Kind, NoDir}
 use Rattle.slots.specs.Slots.{refersTo}
-use Rattle.records.specs.Records.{maxRecords, rootRec}
-use Rattle.state.specs.State.{maxPairs, maxSlots, noSt}
+use Rattle.records.specs.Records.{noRec, rootRec}
+use Rattle.state.specs.State.{maxSlots, pair0, st0, noSt}
 use Rattle.state.specs.Setters.{withBoot, withFat1, withRec, withPair, withSt, withStaging, withStageT, withHint, withVer}
 use Rattle.state.specs.Pairs.{pairOf}
-use Rattle.state.specs.Staged.{slotOf}
-use Rattle.state.specs.LookupLaws.{NoTwice, NoSlotTwice}
 use Rattle.state.specs.declared.w.St.{St}
 use Rattle.state.specs.declared.w.W.{W}
 use Rattle.state.specs.declared.pairs.PairOf.{PairOf}
 use Rattle.state.specs.declared.pairs.PairOf.the-variants.{Value, NoPair}
-use Rattle.medium.specs.Medium.{nextFree}
+use Rattle.medium.specs.Medium.{isMedium, nextFree}
 use Rattle.medium.specs.Reads.{movedRef}
 use Rattle.fat_sectors.specs.Fat.{FatWrite, clusterAt, valueAt, changedAt, ownerAt, freesRow, freedOwner}
 use Rattle.dir_sectors.specs.Dir.{turnsRow}
 use Rattle.root_sectors.specs.Root.{RootWrite, slotAt, keptAt}
 use Rattle.staging.specs.Blocks.{heldFor, filledBlock, areaWith, holdingSt, writtenSt}
-use Rattle.judge.specs.Classify.{SectorWrite, Outcome, fatOf, rootOf, dirOf}
+use Rattle.judge.specs.Classify.{SectorWrite, Outcome, fatOf, rootOf, dirOf, ownerIn}
 use Rattle.write.specs.Write.{Written, takenState}
-use Rattle.demand1.specs.Admits.{slotPlace, slotBefore, needsBlock, takesNone, hintOf, isHost, asShown}
-
--- a state as a session has it: 40 pair places, 10 records and 28 staging slots, and no cluster with two pairs or two staging slots
-pub record Sound (w : W) : Type 0 where
-  pub pairs : length (w .pair) ≡ maxPairs
-  pub recs : length (w .rec) ≡ maxRecords
-  pub slots : length (w .st) ≡ maxSlots
-  pub one-pair : NoTwice (w .pair)
-  pub one-slot : NoSlotTwice (w .st)
+use Rattle.admits.specs.Admits.{slotPlace, slotBefore, parkedSame, needsBlock, takesNone, hintOf, isHost, asShown}
+use Rattle.opens.specs.Opens.{opens}
+use Rattle.demand1.specs.Sound.{Sound}
 
 -- w with these staging slots and this hint, staging on, and its time set to the clock
 unfoldable pub stagingState : W → List St → ℕ → W
 stagingState w ss hint = withHint (withStageT (withStaging (withSt w ss) true) (w .«now_ms»)) hint
 
--- "sets the last time to the clock, at least 1, adds to the taken count, which goes round, and opens the session unless .."
-pub record Taken (r : Written) (o : Outcome) : Type 0 where
-  pub state : r .w ≡ takenState (o .w) (o .changed)
+-- "sets the last time to the clock, at least 1, adds to the taken count, which goes round, and opens the session unless the sector was accepted
+-- unchanged or nothing but dropped dates changed"
+pub record Taken (x : SectorWrite) (w : W) (r : Written) (o : Outcome) : Type 0 where
+  pub state : r .w ≡ takenState (o .w) (opens x w)
+  pub session : r .w .session ≡ (opens x w || w .session)
   pub ids : r .ids ≡ o .ids
   pub area : r .area ≡ o .area
 
--- ".. the sector was accepted unchanged or nothing but dropped dates changed"
+-- one that doesn't open the session changes nothing else
 pub record Same (x : SectorWrite) (w : W) (o : Outcome) : Type 0 where
   pub state : o .w ≡ w
   pub ids : o .ids ≡ x .ids
@@ -72,22 +67,40 @@ pub record BootOnly (x : SectorWrite) (w : W) (o : Outcome) : Type 0 where
 unfoldable pub entryChanged : FatWrite → ℕ → Bool
 entryChanged f k = some (λ i. changedAt f i && eqb (clusterAt f i) k) 256 0
 
--- entry i, changed, from w to v; where the sector frees its file, its pair is left
+-- entry i sets the pair of its cluster: it is changed, isn't FAT[1], and is of no file that the sector frees
+unfoldable pub setsPair : FatWrite → ℕ → Bool
+setsPair f i = changedAt f i && not (eqb (clusterAt f i) 1) && not (freedOwner f (ownerAt f i))
+
+unfoldable pub pairSet : FatWrite → ℕ → Bool
+pairSet f k = some (λ i. setsPair f i && eqb (clusterAt f i) k) 256 0
+
+-- it is removed where it is set to 0 and there was one
+unfoldable pub isValue : PairOf → Bool
+isValue (Value v) = true
+isValue NoPair = false
+
+unfoldable pub pairRemoved : FatWrite → ℕ → Bool
+pairRemoved f k = some (λ i. setsPair f i && eqb (clusterAt f i) k && eqb (valueAt f i) 0) 256 0 && isValue (pairOf (f .pairs) k)
+
 unfoldable pub pairAs : ℕ → PairOf
 pairAs v = pick (eqb v 0) NoPair (Value v)
 
-pub record EntrySet (f : FatWrite) (w v : W) (i : ℕ) : Type 0 where
-  pub fat1 : clusterAt f i ≡ 1 → v .fat1 ≡ valueAt f i + 65536
-  pub pair : (clusterAt f i ≡ 1 → ⊥) → freedOwner f (ownerAt f i) ≡ false → pairOf (v .pair) (clusterAt f i) ≡ pairAs (valueAt f i)
-  pub slot : (clusterAt f i ≡ 1 → ⊥) → freedOwner f (ownerAt f i) ≡ false → valueAt f i ≡ 0
-      → (u : ℕ) → pairOf (w .pair) (clusterAt f i) ≡ Value u → slotOf (v .st) (clusterAt f i) ≡ Nothing
-
 pub record FatOnly (x : SectorWrite) (w : W) (s : ℕ) (o : Outcome) : Type 0 where
+  -- nothing but FAT[1], pairs and staging slots
   pub state : o .w ≡ withFat1 (withPair (withSt w (o .w .st)) (o .w .pair)) (o .w .fat1)
-  pub sets : Sound w → (i : ℕ) → i < 256 → changedAt (fatOf x w s) i ≡ true → EntrySet (fatOf x w s) w (o .w) i
+  pub fat1-set : (i : ℕ) → i < 256 → changedAt (fatOf x w s) i ≡ true → clusterAt (fatOf x w s) i ≡ 1 → o .w .fat1 ≡ valueAt (fatOf x w s) i + 65536
   pub fat1 : entryChanged (fatOf x w s) 1 ≡ false → o .w .fat1 ≡ w .fat1
-  pub pairs : (k : ℕ) → entryChanged (fatOf x w s) k ≡ false → pairOf (o .w .pair) k ≡ pairOf (w .pair) k
-  pub slots : (i : ℕ) → entryChanged (fatOf x w s) (getD (w .st) i noSt .c) ≡ false → getD (o .w .st) i noSt ≡ getD (w .st) i noSt
+  -- the pairs that are set are as written; every other one stays, and at its place
+  pub pair-set : Sound w → (i : ℕ) → i < 256 → setsPair (fatOf x w s) i ≡ true
+      → pairOf (o .w .pair) (clusterAt (fatOf x w s) i) ≡ pairAs (valueAt (fatOf x w s) i)
+  pub pairs : (k : ℕ) → pairSet (fatOf x w s) k ≡ false → pairOf (o .w .pair) k ≡ pairOf (w .pair) k
+  pub places : (n : ℕ) → (getD (w .pair) n pair0 .c ≡ 0 → ⊥) → pairSet (fatOf x w s) (getD (w .pair) n pair0 .c) ≡ false
+      → getD (o .w .pair) n pair0 ≡ getD (w .pair) n pair0
+  -- the clusters of a file that the sector frees get no pair
+  pub freed : (k j : ℕ) → ownerIn x w k ≡ Dyn j → freesRow (fatOf x w s) j ≡ true → pairOf (o .w .pair) k ≡ pairOf (w .pair) k
+  -- a removed pair's staging slot is free; every other slot stays
+  pub slot-free : Sound w → (n : ℕ) → n < maxSlots → pairRemoved (fatOf x w s) (getD (w .st) n noSt .c) ≡ true → getD (o .w .st) n noSt ≡ st0
+  pub slots : (n : ℕ) → pairRemoved (fatOf x w s) (getD (w .st) n noSt .c) ≡ false → getD (o .w .st) n noSt ≡ getD (w .st) n noSt
   pub ids : o .ids ≡ rows (λ j id. pick (freesRow (fatOf x w s) j) (setBit id 13) id) (x .ids)
   pub area : o .area ≡ x .area
 
@@ -99,7 +112,10 @@ pub record RootOnly (x : SectorWrite) (w : W) (s : ℕ) (o : Outcome) : Type 0 w
   pub state : o .w ≡ withRec w (o .w .rec)
   pub keeps : Sound w → (i : ℕ) → i < 16 → keptAt (rootOf x w s) i ≡ true
       → rootRec (o .w .rec) (slotAt (rootOf x w s) i) ≡ record { found = true; e = take 32 (drop (i * 32) (x .written)) }
+  -- every other record stays, and at its place
   pub recs : (k : ℕ) → slotKept (rootOf x w s) k ≡ false → rootRec (o .w .rec) k ≡ rootRec (w .rec) k
+  pub places : (n : ℕ) → (getD (w .rec) n noRec .slot ≡ 0 → ⊥) → slotKept (rootOf x w s) (getD (w .rec) n noRec .slot) ≡ false
+      → getD (o .w .rec) n noRec ≡ getD (w .rec) n noRec
   pub ids : o .ids ≡ x .ids
   pub area : o .area ≡ x .area
 
@@ -117,6 +133,14 @@ pub record DirOnly (x : SectorWrite) (w : W) (k s : ℕ) (o : Outcome) : Type 0 
 unfoldable pub blockTo : SectorWrite → W → ℕ → ℕ → ℕ
 blockTo x w c s = pick (needsBlock (slotBefore w c) s) (nextFree (x .fat) (hintOf w) .block) (heldFor (slotBefore w c) s)
 
+-- a search for a free block runs for data that needs one, on a medium
+unfoldable pub searches : SectorWrite → St → ℕ → Bool
+searches x y s = not (takesNone x y s) && (isMedium (x .fat) (x .area) && needsBlock y s)
+
+-- "staging starts with search hint 2 if it was off": the search's where one ran, else 2 or as before
+unfoldable pub hintAfter : SectorWrite → W → ℕ → ℕ → ℕ
+hintAfter x w c s = pick (searches x (slotBefore w c) s) (nextFree (x .fat) (hintOf w) .hint) (hintOf w)
+
 -- byte k of the data area is one of block b's
 unfoldable pub inBlock : ℕ → ℕ → Bool
 inBlock b k = leb ((b - 2) * 4096) k && ltb k ((b - 2) * 4096 + 4096)
@@ -124,7 +148,7 @@ inBlock b k = leb ((b - 2) * 4096) k && ltb k ((b - 2) * 4096 + 4096)
 -- the cluster's slot, the version, staging, its time and the hint; of the data area that block; "non-zero data marks turned files that it names
 -- as moved"
 pub record StageOnly (x : SectorWrite) (w : W) (c s : ℕ) (o : Outcome) : Type 0 where
-  pub state : o .w ≡ withVer (stagingState w (o .w .st) (o .w .hint)) (wrappingNext (w .ver))
+  pub state : o .w ≡ withVer (stagingState w (o .w .st) (hintAfter x w c s)) (wrappingNext (w .ver))
   pub slots : (i : ℕ) → (slotPlace (w .st) c ≡ At i → ⊥) → getD (o .w .st) i noSt ≡ getD (w .st) i noSt
   pub slot : Sound w → (i : ℕ) → slotPlace (w .st) c ≡ At i → getD (o .w .st) i noSt
       ≡ pick (takesNone x (slotBefore w c) s) (writtenSt (slotBefore w c) s) (holdingSt (slotBefore w c) s (blockTo x w c s))
@@ -135,25 +159,15 @@ pub record StageOnly (x : SectorWrite) (w : W) (c s : ℕ) (o : Outcome) : Type 
   pub bytes : (k : ℕ) → inBlock (blockTo x w c s) k ≡ false → getD (o .area) k 0 ≡ getD (x .area) k 0
   pub long : length (o .area) ≡ length (x .area)
 
--- a host cluster's sector is staged, be it equal to the shown one or not
-unfoldable pub inHost : SectorWrite → W → ℕ → DirKind → Bool
-inHost x w c (Kind k) = false
-inHost x w c NoDir = isHost x w c
-
-unfoldable pub isStaged : SectorWrite → W → Place → Bool
-isStaged x w Boot = false
-isStaged x w (Fat s) = false
-isStaged x w (Root s) = false
-isStaged x w (Data c s) = inHost x w c (dirKindOf c)
-isStaged x w Outside = false
-
 abbrev pub differs : SectorWrite → Type 0
 differs x = asShown x ≡ false
 
--- what a taken sector changes in its cluster; other data is never taken unless it is as shown
+-- what a taken sector changes in its cluster: a host cluster's is staged, be it equal to the shown one or not, unless it is in a parked block what
+-- `staged_read` shows; other data is never taken unless it is as shown
 unfoldable pub InCluster : SectorWrite → W → ℕ → ℕ → Outcome → DirKind → Type 0
 InCluster x w c s o (Kind k) = differs x → DirOnly x w k s o
-InCluster x w c s o NoDir = (isHost x w c ≡ true → o .changed ≡ true → StageOnly x w c s o) × (isHost x w c ≡ false → differs x → ⊥)
+InCluster x w c s o NoDir =
+    (isHost x w c ≡ true → parkedSame x (slotBefore w c) s ≡ false → StageOnly x w c s o) × (isHost x w c ≡ false → differs x → ⊥)
 
 -- what it changes by its place; none is taken outside the drive
 unfoldable pub AtPlace : SectorWrite → W → Outcome → Place → Type 0

@@ -19,8 +19,10 @@ use Rattle.state.specs.declared.w.W.{W}
 use Rattle.staging.specs.Staging.{slotFor}
 use Rattle.judge.specs.Classify.{SectorWrite, classify}
 use Rattle.write.specs.Write.{Written, refusedState, write}
-use Rattle.demand1.specs.Admits.{isPlace, asShown, admits}
-use Rattle.demand1.specs.Changes.{Sound, stagingState, Taken, Same, isStaged, AtPlace}
+use Rattle.admits.specs.Admits.{isPlace, admits}
+use Rattle.opens.specs.Opens.{opens}
+use Rattle.demand1.specs.Sound.{Sound}
+use Rattle.demand1.specs.Changes.{stagingState, hintAfter, Taken, Same, AtPlace}
 
 -- the numbers of `write`: 0 where the sector is taken, and its refusals
 unfoldable pub isListed : ℕ → Bool
@@ -34,6 +36,14 @@ clusterOf (Root s) = 0
 clusterOf (Data c s) = c
 clusterOf Outside = 0
 
+-- the sector of its cluster there
+unfoldable pub sectorIn : Place → ℕ
+sectorIn Boot = 0
+sectorIn (Fat s) = 0
+sectorIn (Root s) = 0
+sectorIn (Data c s) = s
+sectorIn Outside = 0
+
 -- the staging slots with cluster c's claimed: as they were where it has its own, else with the first free one set for it
 unfoldable pub claimAt : List St → ℕ → Found → List St
 claimAt ss c (At i) = set ss i (slotFor c)
@@ -43,11 +53,15 @@ unfoldable pub claimedSlots : List St → ℕ → List St
 claimedSlots ss c = pick (isPlace (slotOf ss c)) ss (claimAt ss c (freeSlot ss))
 
 -- "1, 10 .. change nothing. In `write` the others set the error and its count, which goes round; all but 19 also the last refused place. 17 and
--- 18 also keep the claimed slot, staging, its time and the moved hint": what number n leaves of w, with the hint then
-unfoldable pub leftState : SectorWrite → W → ℕ → ℕ → W
-leftState x w n hint =
+-- 18 also keep the claimed slot, staging, its time and the moved hint"
+unfoldable pub claimedState : SectorWrite → W → Place → W
+claimedState x w p = stagingState w (claimedSlots (w .st) (clusterOf p)) (hintAfter x w (clusterOf p) (sectorIn p))
+
+-- what number n leaves of w
+unfoldable pub leftState : SectorWrite → W → ℕ → W
+leftState x w n =
     pick (eqb n 1 || eqb n 10) w
-    (pick (eqb n 17 || eqb n 18) (refusedState (stagingState w (claimedSlots (w .st) (clusterOf (placeOf (x .lba)))) hint) (x .lba) n)
+    (pick (eqb n 17 || eqb n 18) (refusedState (claimedState x w (placeOf (x .lba))) (x .lba) n)
     (refusedState w (x .lba) n))
 
 -- "leaves FAT pairs, root records, file marks, FAT[1] and the boot byte as before; a staging refusal touches only what is listed for it"
@@ -58,7 +72,7 @@ pub record Refused (x : SectorWrite) (w : W) (r : Written) : Type 0 where
   pub rec : r .w .rec ≡ w .rec
   pub fat1 : r .w .fat1 ≡ w .fat1
   pub boot : r .w .boot ≡ w .boot
-  pub state : r .w ≡ leftState x w (r .number) (r .w .hint)
+  pub state : r .w ≡ leftState x w (r .number)
   pub put-off : r .number ≡ 19 → r .w .n .«last_refused» ≡ w .n .«last_refused»
 
 pub record Demand1 (x : SectorWrite) (w : W) : Type 0 where
@@ -68,10 +82,8 @@ pub record Demand1 (x : SectorWrite) (w : W) : Type 0 where
   pub listed : isListed (write x w .number) ≡ true
   pub refused : (write x w .number ≡ 0 → ⊥) → Refused x w (write x w)
   -- "and changes what they list for it and nothing more"
-  pub taken : write x w .number ≡ 0 → Taken (write x w) (classify x w)
+  pub taken : write x w .number ≡ 0 → Taken x w (write x w) (classify x w)
   pub changed : write x w .number ≡ 0 → AtPlace x w (classify x w) (placeOf (x .lba))
-  pub unchanged : write x w .number ≡ 0 → classify x w .changed ≡ false → Same x w (classify x w)
-  -- "a sector equal to the shown one is accepted unchanged"
-  pub shown : write x w .number ≡ 0 → asShown x ≡ true → isStaged x w (placeOf (x .lba)) ≡ false → classify x w .changed ≡ false
-  -- the claims that ask for a sound state hold all along a session, whose first state is sound
+  pub unchanged : write x w .number ≡ 0 → opens x w ≡ false → Same x w (classify x w)
+  -- the claims that ask for a sound state hold all along a session: its first state is sound, and so is what every call leaves
   pub sound : Sound w → Sound (write x w .w)

@@ -22,8 +22,7 @@ use Rattle.root_sectors.specs.Root as R
 use Rattle.dir_sectors.specs.Dir.{DirWrite, slotPasses, dirNumber, dirIds}
 use Rattle.judge.specs.Classify.{SectorWrite, Outcome, refused, unlessShown, bootPasses, boot, fatOf, fat, rootOf, root, dirOf, dir, dataNumber, otherData, ownerIn}
 use Rattle.sector.specs.Bytes.{same}
-use Rattle.demand1.specs.Changes.{stagingState}
-use Rattle.demand1.specs.Demand1.{isListed, claimedSlots}
+use Rattle.demand1.specs.Demand1.{isListed}
 
 -- a listed number, and neither 1 nor 10, which `write` tries, nor 17 or 18, which staging does
 abbrev pub Plain : ℕ → Type 0
@@ -86,58 +85,58 @@ plain-data Fixed = (refl, refl, refl)
 plain-data (Dyn j) = (refl, refl, refl)
 plain-data Free = (refl, refl, refl)
 
--- what is claimed of a classified sector, in cluster c where it lies in one
-pub record Fair (x : SectorWrite) (w : W) (c : ℕ) (o : Outcome) : Type 0 where
+-- what is claimed of a classified sector; v is what 17 and 18 leave of the state
+pub record Fair (x : SectorWrite) (w v : W) (o : Outcome) : Type 0 where
   pub listed : isListed (o .number) ≡ true
   pub judged : (eqb (o .number) 1 || eqb (o .number) 10) ≡ false
   pub ids : (o .number ≡ 0 → ⊥) → o .ids ≡ x .ids
   pub area : (o .number ≡ 0 → ⊥) → o .area ≡ x .area
   pub state : (o .number ≡ 0 → ⊥)
-      → o .w ≡ pick (eqb (o .number) 17 || eqb (o .number) 18) (stagingState w (claimedSlots (w .st) c) (o .w .hint)) w
+      → o .w ≡ pick (eqb (o .number) 17 || eqb (o .number) 18) v w
 
 -- one that leaves the state where it is refused
-fair-by : (x : SectorWrite) (w : W) (c : ℕ) (o : Outcome) → Plain (o .number) → o .area ≡ x .area
-    → ((o .number ≡ 0 → ⊥) → o .ids ≡ x .ids) → ((o .number ≡ 0 → ⊥) → o .w ≡ w) → Fair x w c o
-fair-by x w c o p a i f = record { listed = p .0; judged = p .1; ids = i; area = λ h. a; state = λ h. rw (p .2) (f h) }
+fair-by : (x : SectorWrite) (w v : W) (o : Outcome) → Plain (o .number) → o .area ≡ x .area
+    → ((o .number ≡ 0 → ⊥) → o .ids ≡ x .ids) → ((o .number ≡ 0 → ⊥) → o .w ≡ w) → Fair x w v o
+fair-by x w v o p a i f = record { listed = p .0; judged = p .1; ids = i; area = λ h. a; state = λ h. rw (p .2) (f h) }
 
-module _ (x : SectorWrite) (w : W) (c : ℕ) where
-  pub fair-refused : (n : ℕ) → Plain n → Fair x w c (refused x w n)
-  fair-refused n p = fair-by x w c (refused x w n) p refl (λ h. refl) (λ h. refl)
+module _ (x : SectorWrite) (w v : W) where
+  pub fair-refused : (n : ℕ) → Plain n → Fair x w v (refused x w n)
+  fair-refused n p = fair-by x w v (refused x w n) p refl (λ h. refl) (λ h. refl)
 
-  fair-shown : (o : Outcome) → Fair x w c o → Fair x w c (unlessShown x w o)
+  fair-shown : (o : Outcome) → Fair x w v o → Fair x w v (unlessShown x w o)
   unfolding unlessShown isListed
   fair-shown o f =
-      pick-has (Fair x w c) (same (x .shown) (x .written)) _ o
-      (fair-by x w c (record { number = 0; changed = false; w = w; ids = x .ids; area = x .area }) (refl, refl, refl) refl (λ h. refl) (λ h. refl)) f
+      pick-has (Fair x w v) (same (x .shown) (x .written)) _ o
+      (fair-by x w v (record { number = 0; changed = false; w = w; ids = x .ids; area = x .area }) (refl, refl, refl) refl (λ h. refl) (λ h. refl)) f
 
-  pub fair-boot : Fair x w c (unlessShown x w (boot x w))
+  pub fair-boot : Fair x w v (unlessShown x w (boot x w))
   unfolding boot isListed
   fair-boot =
       fair-shown (boot x w)
-      (pick-has (Fair x w c) (bootPasses (x .shown) (x .written)) _ (refused x w 3)
-      (fair-by x w c (record { number = 0; changed = true; w = withBoot w (getD (x .written) 0x25 0); ids = x .ids; area = x .area })
+      (pick-has (Fair x w v) (bootPasses (x .shown) (x .written)) _ (refused x w 3)
+      (fair-by x w v (record { number = 0; changed = true; w = withBoot w (getD (x .written) 0x25 0); ids = x .ids; area = x .area })
       (refl, refl, refl) refl (λ h. refl) (λ h. absurd (h refl)))
       (fair-refused 3 (refl, refl, refl)))
 
-  pub fair-fat : (s : ℕ) → Fair x w c (unlessShown x w (fat x w s))
+  pub fair-fat : (s : ℕ) → Fair x w v (unlessShown x w (fat x w s))
   unfolding fat fatState fatIds
   fair-fat s =
       fair-shown (fat x w s)
-      (fair-by x w c (fat x w s) (plain-fat (fatOf x w s)) refl
+      (fair-by x w v (fat x w s) (plain-fat (fatOf x w s)) refl
       (λ h. rw (ne-eqb (fatNumber (fatOf x w s)) 0 h)) (λ h. rw (ne-eqb (fatNumber (fatOf x w s)) 0 h)))
 
-  pub fair-root : (s : ℕ) → Fair x w c (unlessShown x w (root x w s))
+  pub fair-root : (s : ℕ) → Fair x w v (unlessShown x w (root x w s))
   unfolding root R.rootState
   fair-root s =
       fair-shown (root x w s)
-      (fair-by x w c (root x w s) (plain-root (rootOf x w s)) refl (λ h. refl) (λ h. rw (ne-eqb (R.rootNumber (rootOf x w s)) 0 h)))
+      (fair-by x w v (root x w s) (plain-root (rootOf x w s)) refl (λ h. refl) (λ h. rw (ne-eqb (R.rootNumber (rootOf x w s)) 0 h)))
 
-  pub fair-dir : (k s : ℕ) → Fair x w c (unlessShown x w (dir x w k s))
+  pub fair-dir : (k s : ℕ) → Fair x w v (unlessShown x w (dir x w k s))
   unfolding dir dirIds
   fair-dir k s =
       fair-shown (dir x w k s)
-      (fair-by x w c (dir x w k s) (plain-dir (dirOf x k s)) refl (λ h. rw (ne-eqb (dirNumber (dirOf x k s)) 0 h)) (λ h. refl))
+      (fair-by x w v (dir x w k s) (plain-dir (dirOf x k s)) refl (λ h. rw (ne-eqb (dirNumber (dirOf x k s)) 0 h)) (λ h. refl))
 
-  pub fair-data : Fair x w c (unlessShown x w (otherData x w c))
+  pub fair-data : (c : ℕ) → Fair x w v (unlessShown x w (otherData x w c))
   unfolding otherData
-  fair-data = fair-shown (otherData x w c) (fair-refused (dataNumber (ownerIn x w c)) (plain-data (ownerIn x w c)))
+  fair-data c = fair-shown (otherData x w c) (fair-refused (dataNumber (ownerIn x w c)) (plain-data (ownerIn x w c)))

@@ -1,26 +1,34 @@
--- What a taken FAT sector changes.
+-- What a taken FAT sector leaves.
 use Prim.Native.Nat.{ℕ, _+_, _<_}
-use mathlib.Core.Bool.{true, false, _&&_, true≢false}
+use mathlib.Core.Bool.{Bool, true, false, not, _&&_, true≢false}
 use mathlib.Core.List.{List}
-use mathlib.Core.Path.{_≡_, refl, sym, _∙_}
+use mathlib.Core.Path.{_≡_, refl, sym, _∙_, ap}
 use native.Mathlib.Omega.{arith}
 use lib.Dec.{eqb}
 use lib.ListN.{getD, set}
-use borrow.Author.Tests.{eqb-true, eqb-false, eq-eqb}
-use Rattle.loops.specs.Choices.{pick-by, and-of}
+use borrow.Author.Tests.{eqb-true, eqb-false, eq-eqb, ne-eqb, not-true}
+use Rattle.loops.specs.Loops.{pick, some, fold}
+use Rattle.loops.specs.Choices.{either, pick-by, and-of, and-0, and-1}
+use Rattle.loops.specs.Facts.{some-in}
+use Rattle.loops.specs.Keyed.{other-stands}
+use Rattle.loops.specs.Rows.{rows}
 use Rattle.loops.specs.declared.Found.{Found}
 use Rattle.loops.specs.declared.Found.the-variants.{At, Nothing}
-use Rattle.state.specs.State.{noSt, st0, pair0}
+use Rattle.bits.specs.Bit.{setBit}
+use Rattle.vdisk.specs.Owner.{ownerOf}
+use Rattle.vdisk.specs.declared.owner.Own.the-variants.{Dyn}
+use Rattle.state.specs.State.{maxPairs, noSt, st0, pair0}
 use Rattle.state.specs.Setters.{withFat1, withPair, withSt}
 use Rattle.state.specs.Pairs.{pairOf, dropAt, setPair}
 use Rattle.state.specs.Staged.{slotOf}
-use Rattle.state.specs.SetPairLaws.{setPair-by, setPair-only, pairOf-other, slot-stands}
+use Rattle.state.specs.LookupLaws.{pairKey, pairIdx-is, freePair-is}
+use Rattle.state.specs.SetPairLaws.{setPair-by, pair-by, setPair-only, pairOf-other}
 use Rattle.state.specs.declared.w.Pair.{Pair}
 use Rattle.state.specs.declared.w.St.{St}
 use Rattle.state.specs.declared.w.W.{W}
-use Rattle.fat_sectors.specs.Fat.{FatWrite, clusterAt, valueAt, changedAt, ownerAt, fatNumber, freedOwner, applyAt, fatState, freeId, fatIds}
-use Rattle.judge.specs.Classify.{SectorWrite, fatOf, fat}
-use Rattle.demand1.specs.Changes.{Sound, EntrySet, FatOnly, entryChanged}
+use Rattle.fat_sectors.specs.Fat.{FatWrite, clusterAt, valueAt, changedAt, ownerAt, fatNumber, freesRow, freedOwner, applyAt, fatState, freeId, fatIds}
+use Rattle.judge.specs.Classify.{SectorWrite, Outcome, fatOf, fat, ownerIn}
+use Rattle.demand1.specs.Changes.{entryChanged, setsPair, pairSet}
 use Rattle.demand1.specs.Turns.{fold-in, none-at}
 
 -- all fields but the pairs, the staging slots and FAT[1] are w's
@@ -74,39 +82,91 @@ module _ (w : W) (f : FatWrite) where
       true≢false (sym (and-of (changedAt f i) (eqb (clusterAt f i) k) q (eq-eqb (clusterAt f i) k z))
       ∙ none-at (λ i. changedAt f i && eqb (clusterAt f i) k) 256 i e l)
 
-  module _ (k : ℕ) (e : entryChanged f k ≡ false) where
-    pair-apply : (i : ℕ) (v : W) → i < 256 → pairOf (v .pair) k ≡ pairOf (w .pair) k → pairOf (applyAt f i v .pair) k ≡ pairOf (w .pair) k
-    unfolding withFat1
-    pair-apply i v l h =
-        apply-by f (λ u. pairOf (u .pair) k ≡ pairOf (w .pair) k) i v h (λ q z. h)
-        (λ q. pairOf-other v (clusterAt f i) (valueAt f i) k (λ z. other k i e l q (sym z)) ∙ h)
-
-  slot-apply : (j : ℕ) → entryChanged f (getD (w .st) j noSt .c) ≡ false
-      → (i : ℕ) (v : W) → i < 256 → getD (v .st) j noSt ≡ getD (w .st) j noSt → getD (applyAt f i v .st) j noSt ≡ getD (w .st) j noSt
-  unfolding withFat1
-  slot-apply j e i v l h =
-      apply-by f (λ u. getD (u .st) j noSt ≡ getD (w .st) j noSt) i v h (λ q z. h)
-      (λ q. slot-stands v (clusterAt f i) (valueAt f i) j (λ z. other (getD (w .st) j noSt .c) i e l q (sym (rw h at z))) ∙ h)
-
   fat1-apply : entryChanged f 1 ≡ false → (i : ℕ) (v : W) → i < 256 → v .fat1 ≡ w .fat1 → applyAt f i v .fat1 ≡ w .fat1
   fat1-apply e i v l h =
       apply-by f (λ u. u .fat1 ≡ w .fat1) i v h (λ q z. absurd (other 1 i e l q z)) (λ q. setPair-only v (clusterAt f i) (valueAt f i) .fat1 ∙ h)
 
+  -- a pair that is set is one of an entry's that sets it
+  sets-of : (i : ℕ) → changedAt f i ≡ true → (clusterAt f i ≡ 1 → ⊥) → freedOwner f (ownerAt f i) ≡ false → setsPair f i ≡ true
+  unfolding setsPair
+  sets-of i q n o =
+      let a = not (eqb (clusterAt f i) 1) in
+      let b = not (freedOwner f (ownerAt f i)) in
+      and-of (changedAt f i && a) b (and-of (changedAt f i) a q (ap not (ne-eqb (clusterAt f i) 1 n))) (ap not o)
+
+  pub unset : (k i : ℕ) → pairSet f k ≡ false → i < 256 → setsPair f i ≡ true → clusterAt f i ≡ k → ⊥
+  unfolding pairSet
+  unset k i e l q z =
+      true≢false (sym (and-of (setsPair f i) (eqb (clusterAt f i) k) q (eq-eqb (clusterAt f i) k z))
+      ∙ none-at (λ i. setsPair f i && eqb (clusterAt f i) k) 256 i e l)
+
+  -- the ways of an entry, where the pairs and slots are concerned
+  pub apply-pairs : (P : W → Type 0) (i : ℕ) (v : W) → P v → ((n : ℕ) → P (withFat1 v n)) → (setsPair f i ≡ true → P (setPair v (clusterAt f i) (valueAt f i)))
+      → P (applyAt f i v)
+  apply-pairs P i v h g k = apply-cases f P i v (λ q. h) (λ q z. g (valueAt f i + 65536)) (λ q z y. h) (λ q z y. k (sets-of i q z y))
+
+  module _ (k : ℕ) (e : pairSet f k ≡ false) where
+    pair-apply : (i : ℕ) (v : W) → i < 256 → pairOf (v .pair) k ≡ pairOf (w .pair) k → pairOf (applyAt f i v .pair) k ≡ pairOf (w .pair) k
+    unfolding withFat1
+    pair-apply i v l h =
+        apply-pairs (λ u. pairOf (u .pair) k ≡ pairOf (w .pair) k) i v h (λ n. h)
+        (λ q. pairOf-other v (clusterAt f i) (valueAt f i) k (λ z. unset k i e l q (sym z)) ∙ h)
+
+  -- a pair in use stays at its place where another cluster's is set
+  place-stands : (v : W) (c a n : ℕ) → (getD (v .pair) n pair0 .c ≡ 0 → ⊥) → (getD (v .pair) n pair0 .c ≡ c → ⊥)
+      → getD (setPair v c a .pair) n pair0 ≡ getD (v .pair) n pair0
+  place-stands v c a n u h =
+      let p : Pair = record { c = c; v = a } in
+      pair-by v c a (λ ps. getD ps n pair0 ≡ getD (v .pair) n pair0)
+      (λ i e z. other-stands pairKey pair0 maxPairs (v .pair) i pair0 n (λ y. h (sym y ∙ pairIdx-is (v .pair) c i e .0)))
+      (λ i e z. other-stands pairKey pair0 maxPairs (v .pair) i p n (λ y. h (sym y ∙ pairIdx-is (v .pair) c i e .0)))
+      (λ i e z g. other-stands pairKey pair0 maxPairs (v .pair) i p n (λ y. u (sym y ∙ freePair-is (v .pair) i g)))
+      refl
+
+  place-apply : (n : ℕ) → (getD (w .pair) n pair0 .c ≡ 0 → ⊥) → pairSet f (getD (w .pair) n pair0 .c) ≡ false
+      → (i : ℕ) (v : W) → i < 256 → getD (v .pair) n pair0 ≡ getD (w .pair) n pair0 → getD (applyAt f i v .pair) n pair0 ≡ getD (w .pair) n pair0
+  unfolding withFat1
+  place-apply n u e i v l h =
+      apply-pairs (λ r. getD (r .pair) n pair0 ≡ getD (w .pair) n pair0) i v h (λ m. h)
+      (λ q. place-stands v (clusterAt f i) (valueAt f i) n (λ y. u (rw h at y)) (λ y. unset (getD (w .pair) n pair0 .c) i e l q (sym (rw h at y))) ∙ h)
+
+  -- a file that the sector frees has no entry that sets a pair
+  freed-unset : (k j : ℕ) → ownerOf (f .starts) (f .sizes) (f .first) k ≡ Dyn j → freesRow f j ≡ true → pairSet f k ≡ false
+  unfolding pairSet setsPair freedOwner
+  freed-unset k j o r =
+      either (some (λ i. setsPair f i && eqb (clusterAt f i) k) 256 0)
+      (λ q. some-in (λ i. setsPair f i && eqb (clusterAt f i) k) 256 0 q
+      (λ i l h z. let c = eqb-true (clusterAt f i) k (and-1 (setsPair f i) (eqb (clusterAt f i) k) z) in
+      let s = and-1 (changedAt f i && not (eqb (clusterAt f i) 1)) (not (freedOwner f (ownerAt f i))) (and-0 (setsPair f i) (eqb (clusterAt f i) k) z) in
+      let t : not (freesRow f j) ≡ true = rw (c, o) at s in
+      absurd (true≢false (sym r ∙ not-true (freesRow f j) t))))
+      (λ q. q)
+
 module _ (x : SectorWrite) (w : W) (s : ℕ) where
-  pub fat-only : fat x w s .number ≡ 0
-      → (Sound w → (i : ℕ) → i < 256 → changedAt (fatOf x w s) i ≡ true → EntrySet (fatOf x w s) w (fat x w s .w) i) → FatOnly x w s (fat x w s)
+  -- all of it but what is set
+  pub record FatFrame (o : Outcome) : Type 0 where
+    pub state : o .w ≡ withFat1 (withPair (withSt w (o .w .st)) (o .w .pair)) (o .w .fat1)
+    pub fat1 : entryChanged (fatOf x w s) 1 ≡ false → o .w .fat1 ≡ w .fat1
+    pub pairs : (k : ℕ) → pairSet (fatOf x w s) k ≡ false → pairOf (o .w .pair) k ≡ pairOf (w .pair) k
+    pub places : (n : ℕ) → (getD (w .pair) n pair0 .c ≡ 0 → ⊥) → pairSet (fatOf x w s) (getD (w .pair) n pair0 .c) ≡ false
+        → getD (o .w .pair) n pair0 ≡ getD (w .pair) n pair0
+    pub freed : (k j : ℕ) → ownerIn x w k ≡ Dyn j → freesRow (fatOf x w s) j ≡ true → pairOf (o .w .pair) k ≡ pairOf (w .pair) k
+    pub ids : o .ids ≡ rows (λ j id. pick (freesRow (fatOf x w s) j) (setBit id 13) id) (x .ids)
+
+  pub fat-frame : fat x w s .number ≡ 0 → FatFrame (fat x w s)
   unfolding fat fatState fatIds freeId withFat1 withPair withSt
-  fat-only e sets =
+  fat-frame e =
       let f = fatOf x w s in
       let q = eq-eqb (fatNumber f) 0 e in
+      let stay : (k : ℕ) → pairSet f k ≡ false → pairOf (fold (applyAt f) 256 0 w .pair) k ≡ pairOf (w .pair) k =
+      λ k n. fold-in (λ u. pairOf (u .pair) k ≡ pairOf (w .pair) k) (applyAt f) 256 (pair-apply w f k n) w refl in
       record {
-        state = rw q (fold-in (OnlyFat w) (applyAt f) 256 (only-apply w f) 256 0 w (omega arith) refl);
-        sets = sets;
-        fat1 = λ n. rw q (fold-in (λ u. u .fat1 ≡ w .fat1) (applyAt f) 256 (fat1-apply w f n) 256 0 w (omega arith) refl);
-        pairs = λ k n. rw q (fold-in (λ u. pairOf (u .pair) k ≡ pairOf (w .pair) k) (applyAt f) 256 (pair-apply w f k n) 256 0 w (omega arith) refl);
-        slots = λ j n. rw q (fold-in (λ u. getD (u .st) j noSt ≡ getD (w .st) j noSt) (applyAt f) 256 (slot-apply w f j n) 256 0 w (omega arith) refl);
+        state = rw q (fold-in (OnlyFat w) (applyAt f) 256 (only-apply w f) w refl);
+        fat1 = λ n. rw q (fold-in (λ u. u .fat1 ≡ w .fat1) (applyAt f) 256 (fat1-apply w f n) w refl);
+        pairs = λ k n. rw q (stay k n);
+        places = λ m u n. rw q (fold-in (λ v. getD (v .pair) m pair0 ≡ getD (w .pair) m pair0) (applyAt f) 256 (place-apply w f m u n) w refl);
+        freed = λ k j o r. rw q (stay k (freed-unset w f k j o r));
         ids = rw q;
-        area = refl;
       }
 
   -- a taken FAT sector opens the session

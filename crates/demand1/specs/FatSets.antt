@@ -1,4 +1,4 @@
--- A taken FAT sector sets FAT[1] and the pairs of its changed entries as written.
+-- A taken FAT sector sets the pairs of its changed entries as written.
 use Prim.Native.Nat.{ℕ, _+_, _≤_, _<_}
 use mathlib.Core.Bool.{Bool, true, false, not, _&&_, true≢false}
 use mathlib.Core.List.{List}
@@ -6,8 +6,8 @@ use mathlib.Core.Path.{_≡_, refl, sym, _∙_, ap}
 use native.Mathlib.Omega.{arith}
 use lib.Dec.{leb, eqb}
 use lib.ListN.{length}
-use borrow.Author.Tests.{eqb-true, eqb-false, eq-eqb, ne-eqb, leb-true}
-use Rattle.loops.specs.Loops.{pick, all, some, count}
+use borrow.Author.Tests.{eqb-true, eqb-false, eq-eqb, ne-eqb, leb-true, not-true}
+use Rattle.loops.specs.Loops.{pick, all, some, count, fold}
 use Rattle.loops.specs.Choices.{either, and-0, and-1, and-of}
 use Rattle.loops.specs.Facts.{all-at, some-at}
 use Rattle.loops.specs.Found.{found-by}
@@ -17,9 +17,8 @@ use Rattle.vdisk.specs.declared.owner.Own.the-variants.{Reserved, Fixed, Dyn, F
 use Rattle.state.specs.State.{maxPairs}
 use Rattle.state.specs.Setters.{withFat1}
 use Rattle.state.specs.Pairs.{pairIdx, pairAt, pairOf, freePairs}
-use Rattle.state.specs.Staged.{slotOf}
-use Rattle.state.specs.LookupLaws.{NoTwice, NoSlotTwice, none-pairOf}
-use Rattle.state.specs.SetPairLaws.{pairs-length, pairOf-other, pairOf-same, pairOf-gone, noTwice-setPair, noSlotTwice-setPair, slotOf-other, slotOf-gone, setPair-only}
+use Rattle.state.specs.LookupLaws.{NoTwice, none-pairOf}
+use Rattle.state.specs.SetPairLaws.{pairs-length, pairOf-other, pairOf-same, pairOf-gone, noTwice-setPair}
 use Rattle.state.specs.CountLaws.{freePairs-removed, freePairs-changed, freePairs-added, setPair-absent}
 use Rattle.state.specs.declared.w.Pair.{Pair}
 use Rattle.state.specs.declared.w.W.{W}
@@ -28,11 +27,13 @@ use Rattle.state.specs.declared.pairs.PairOf.the-variants.{Value, NoPair}
 use Rattle.clusters.specs.Clusters.{isNothing, isLive, hostOwn}
 use Rattle.fat_sectors.specs.Fat.{FatWrite, clusterAt, valueAt, changedAt, ownerAt, ownNumber, entryNumber, needsPair, fatNumber, freedOwn, freedBy, freesRow, freedOwner, applyAt, fatState}
 use Rattle.judge.specs.Classify.{SectorWrite, fatOf, fat}
-use Rattle.demand1.specs.Admits.{entryPasses, fatAdmits}
-use Rattle.demand1.specs.AdmitLaws.{entry-pass, fat-pass}
-use Rattle.demand1.specs.Changes.{Sound, pairAs, EntrySet}
+use Rattle.admits.specs.Admits.{entryPasses, fatAdmits}
+use Rattle.admits.specs.AdmitLaws.{entry-pass, fat-pass}
+use Rattle.demand1.specs.Sound.{Sound}
+use Rattle.demand1.specs.Changes.{setsPair, pairAs, FatOnly}
 use Rattle.demand1.specs.Room.{fold-does}
-use Rattle.demand1.specs.FatFrame.{apply-cases}
+use Rattle.demand1.specs.FatFrame.{apply-cases, fat-frame}
+use Rattle.demand1.specs.FatSlots.{slot-stays, slot-dropped, fat1-sets}
 
 -- a cluster has a pair or none
 unfoldable isNone : PairOf → Bool
@@ -54,13 +55,11 @@ module _ (w : W) (f : FatWrite) (passes : (i : ℕ) → i < 256 → entryNumber 
   abbrev needs : W → ℕ → Bool
   needs v j = valued j && isNothing (pairIdx (v .pair) (clusterAt f j))
 
-  -- before turn i: the entries from i on have their pairs as in w
   abbrev Before : ℕ → W → Type 0
-  Before i v = (length (v .pair) ≡ maxPairs) × NoTwice (v .pair) × NoSlotTwice (v .st)
-      × ((j : ℕ) → i ≤ j → pairOf (v .pair) (clusterAt f j) ≡ pairOf (w .pair) (clusterAt f j))
+  Before i v = (length (v .pair) ≡ maxPairs) × NoTwice (v .pair)
 
   abbrev Sets : ℕ → W → Type 0
-  Sets j v = changedAt f j ≡ true → EntrySet f w v j
+  Sets j v = setsPair f j ≡ true → pairOf (v .pair) (clusterAt f j) ≡ pairAs (valueAt f j)
 
   -- a changed entry that passes is not FAT[0], and where its file isn't freed by the sector it is a host cluster's
   not-first : (i : ℕ) → i < 256 → changedAt f i ≡ true → clusterAt f i ≡ 0 → ⊥
@@ -112,44 +111,23 @@ module _ (w : W) (f : FatWrite) (passes : (i : ℕ) → i < 256 → entryNumber 
       let a = valueAt f i in (
         apply-cases f (λ u. length (u .pair) ≡ maxPairs) i v (λ q. h .0) (λ q z. h .0) (λ q z y. h .0) (λ q z y. pairs-length v c a ∙ h .0),
         apply-cases f (λ u. NoTwice (u .pair)) i v (λ q. h .1) (λ q z. h .1) (λ q z y. h .1) (λ q z y. noTwice-setPair v c a (h .1)),
-        apply-cases f (λ u. NoSlotTwice (u .st)) i v (λ q. h .2) (λ q z. h .2) (λ q z y. h .2) (λ q z y. noSlotTwice-setPair v c a (h .2)),
-        λ j e. other-pair i j v (λ z. omega arith) ∙ h .3 j (omega arith),
       )
 
   does : (i : ℕ) (v : W) → i < 256 → Before i v → (needs v i ≡ true → freePairs (v .pair) ≡ 0 → ⊥) → Sets i (applyAt f i v)
-  unfolding withFat1 pairAs
+  unfolding withFat1 pairAs setsPair
   does i v l h some =
-      apply-cases f (Sets i) i v (λ q k. absurd (true≢false (sym k ∙ q)))
-      (λ q z k. record { fat1 = λ y. refl; pair = λ y. absurd (y z); slot = λ y. absurd (y z) })
-      (λ q n z k. record { fat1 = λ y. absurd (n y); pair = λ y t. absurd (true≢false (sym z ∙ t)); slot = λ y t. absurd (true≢false (sym z ∙ t)) })
-      (λ q n o k. record {
-        fat1 = λ y. absurd (n y);
-        pair = λ y t.
-            either (eqb (valueAt f i) 0)
-            (λ e. rw e (pairOf-gone v (clusterAt f i) (valueAt f i) (h .1) (eqb-true (valueAt f i) 0 e)))
-            (λ e. let z = eqb-false (valueAt f i) 0 e in
-            rw e (pairOf-same v (clusterAt f i) (valueAt f i) (h .0) (not-first i l q) z (λ p. some (needs-it i v l q n o z p))));
-        slot = λ y t z u p. slotOf-gone v (clusterAt f i) (valueAt f i) (h .2) u (h .3 i (omega arith) ∙ p) z;
-      })
-
-  other-fat1 : (i j : ℕ) (v : W) → (i ≡ j → ⊥) → clusterAt f j ≡ 1 → applyAt f i v .fat1 ≡ v .fat1
-  other-fat1 i j v n e =
-      apply-cases f (λ u. u .fat1 ≡ v .fat1) i v (λ q. refl) (λ q z. absurd (n (omega arith))) (λ q z y. refl)
-      (λ q z y. setPair-only v (clusterAt f i) (valueAt f i) .fat1)
-
-  other-slot : (i j : ℕ) (v : W) → (i ≡ j → ⊥) → slotOf (applyAt f i v .st) (clusterAt f j) ≡ slotOf (v .st) (clusterAt f j)
-  unfolding withFat1
-  other-slot i j v n =
-      apply-cases f (λ u. slotOf (u .st) (clusterAt f j) ≡ slotOf (v .st) (clusterAt f j)) i v (λ q. refl) (λ q z. refl) (λ q z y. refl)
-      (λ q z y. slotOf-other v (clusterAt f i) (valueAt f i) (clusterAt f j) (λ e. n (omega arith)))
+      let b = not (eqb (clusterAt f i) 1) in
+      let g = not (freedOwner f (ownerAt f i)) in
+      apply-cases f (Sets i) i v (λ q k. absurd (true≢false (sym (and-0 (changedAt f i) b (and-0 (changedAt f i && b) g k)) ∙ q)))
+      (λ q z k. absurd (true≢false (sym (eq-eqb (clusterAt f i) 1 z) ∙ not-true (eqb (clusterAt f i) 1) (and-1 (changedAt f i) b (and-0 (changedAt f i && b) g k)))))
+      (λ q n z k. absurd (true≢false (sym z ∙ not-true (freedOwner f (ownerAt f i)) (and-1 (changedAt f i && b) g k))))
+      (λ q n o k. either (eqb (valueAt f i) 0)
+      (λ e. rw e (pairOf-gone v (clusterAt f i) (valueAt f i) (h .1) (eqb-true (valueAt f i) 0 e)))
+      (λ e. let z = eqb-false (valueAt f i) 0 e in
+      rw e (pairOf-same v (clusterAt f i) (valueAt f i) (h .0) (not-first i l q) z (λ p. some (needs-it i v l q n o z p)))))
 
   stays : (i j : ℕ) (v : W) → (i ≡ j → ⊥) → Sets j v → Sets j (applyAt f i v)
-  stays i j v n d q =
-      record {
-        fat1 = λ e. other-fat1 i j v n e ∙ d q .fat1 e;
-        pair = λ e h. other-pair i j v n ∙ d q .pair e h;
-        slot = λ e h z u p. other-slot i j v n ∙ d q .slot e h z u p;
-      }
+  stays i j v n d q = other-pair i j v n ∙ d q
 
   other-needs : (i j : ℕ) (v : W) → (i ≡ j → ⊥) → needs (applyAt f i v) j ≡ needs v j
   other-needs i j v n =
@@ -197,11 +175,30 @@ module _ (x : SectorWrite) (w : W) (s : ℕ) (taken : fat x w s .number ≡ 0) w
       leb-true (count (needsPair f) 256 0) (freePairs (w .pair))
       (and-1 (all (entryPasses f) 256 0) (leb (count (needsPair f) 256 0) (freePairs (w .pair))) admitted)
 
-  pub fat-sets : Sound w → (i : ℕ) → i < 256 → changedAt (fatOf x w s) i ≡ true → EntrySet (fatOf x w s) w (fat x w s .w) i
-  unfolding fat fatState
-  fat-sets h i l q =
+  sets-as : Sound w → (i : ℕ) → i < 256 → setsPair (fatOf x w s) i ≡ true
+      → pairOf (fold (applyAt (fatOf x w s)) 256 0 w .pair) (clusterAt (fatOf x w s) i) ≡ pairAs (valueAt (fatOf x w s) i)
+  sets-as h i l q =
       let f = fatOf x w s in
       let a = all-pass in
-      rw (eq-eqb (fatNumber f) 0 taken)
-      (fold-does (applyAt f) (needs w f a) (λ v. freePairs (v .pair)) (Before w f a) (Sets w f a) 256 (keep-before w f a) (does w f a) (stays w f a)
-      (other-needs w f a) (has-room w f a) 256 0 w refl (h .pairs, h .one-pair, h .one-slot, λ j e. refl) fits i (omega arith) l q)
+      fold-does (applyAt f) (needs w f a) (λ v. freePairs (v .pair)) (Before w f a) (Sets w f a) 256 (keep-before w f a) (does w f a) (stays w f a)
+      (other-needs w f a) (has-room w f a) 256 0 w refl (h .pairs, h .one-pair) fits i (omega arith) l q
+
+  pub fat-only : FatOnly x w s (fat x w s)
+  unfolding fat fatState
+  fat-only =
+      let f = fatOf x w s in
+      let q = eq-eqb (fatNumber f) 0 taken in
+      let r = fat-frame x w s taken in
+      record {
+        state = r .state;
+        fat1-set = λ i l c z. rw q (fat1-sets w f i l c z);
+        fat1 = r .fat1;
+        pair-set = λ h i l c. rw q (sets-as h i l c);
+        pairs = r .pairs;
+        places = r .places;
+        freed = r .freed;
+        slot-free = λ h n l e. rw q (slot-dropped w f refl n h l (not-first w f all-pass) e);
+        slots = λ n e. rw q (slot-stays w f refl n e);
+        ids = r .ids;
+        area = refl;
+      }

@@ -1,5 +1,5 @@
--- Demand 1: which sectors are admitted, what they change, the statement over the definition of a whole call, and its proof.
-pub mod Admits
+-- Demand 1: a sound state, what a taken sector changes, the statement over the definition of a whole call, and its proof.
+pub mod Sound
 pub mod Changes
 pub mod Demand1
 pub mod Turns
@@ -8,8 +8,8 @@ pub mod Area
 pub mod Fair
 pub mod StageFair
 pub mod StageFrame
-pub mod AdmitLaws
 pub mod FatFrame
+pub mod FatSlots
 pub mod FatSets
 pub mod RootFrame
 pub mod RootSets

@@ -4,11 +4,12 @@ use mathlib.Core.Bool.{Bool, true, not, _&&_, true≢false}
 use mathlib.Core.List.{List}
 use mathlib.Core.Path.{_≡_, refl, sym, _∙_, ap}
 use native.Mathlib.Omega.{arith}
-use lib.Dec.{leb}
+use lib.Dec.{leb, ltb, eqb}
 use lib.ListN.{length, set, take, drop, length-set}
-use borrow.Author.Tests.{eq-eqb, leb-true, leb-false, not-true}
-use Rattle.loops.specs.Loops.{pick, all, count}
-use Rattle.loops.specs.Choices.{and-1, and-of}
+use borrow.Author.Tests.{eq-eqb, leb-false, ltb-true, ltb-false, not-true}
+use Rattle.loops.specs.Loops.{pick, first, count}
+use Rattle.loops.specs.Choices.{picked, and-1, and-of}
+use Rattle.loops.specs.Facts.{first-at}
 use Rattle.loops.specs.Found.{found-by}
 use Rattle.loops.specs.declared.Found.the-variants.{At, Nothing}
 use Rattle.records.specs.Records.{maxRecords, recIdx, freeRec, freeRecs, rootRecAt, rootRec}
@@ -17,11 +18,9 @@ use Rattle.records.specs.declared.Rec.{Rec}
 use Rattle.state.specs.Setters.{withRec}
 use Rattle.state.specs.declared.w.W.{W}
 use Rattle.clusters.specs.Clusters.{isNothing}
-use Rattle.root_sectors.specs.Root.{RootWrite, slotAt, isOwn, changedAt, keptAt, needsRec, rootNumber, placeOf, putAt, keepAt, rootState}
+use Rattle.root_sectors.specs.Root.{RootWrite, slotAt, isOwn, changedAt, slotNumber, refusedAt, keptAt, needsRec, rootNumber, placeOf, putAt, keepAt, rootState}
 use Rattle.judge.specs.Classify.{SectorWrite, rootOf, root}
-use Rattle.demand1.specs.Admits.{rootPasses, rootAdmits}
-use Rattle.demand1.specs.AdmitLaws.{root-pass}
-use Rattle.demand1.specs.Changes.{Sound}
+use Rattle.demand1.specs.Sound.{Sound}
 use Rattle.demand1.specs.Room.{fold-does}
 use Rattle.demand1.specs.RootFrame.{recAt, keep-cases, put-other}
 
@@ -101,11 +100,12 @@ module _ (f : RootWrite) where
 
 module _ (x : SectorWrite) (w : W) (s : ℕ) where
   fits : root x w s .number ≡ 0 → count (needs (rootOf x w s) w) 16 0 ≤ freeRecs (w .rec)
-  unfolding root rootAdmits needsRec
+  unfolding root rootNumber needsRec
   fits e =
       let f = rootOf x w s in
-      leb-true (count (needsRec f) 16 0) (freeRecs (w .rec))
-      (and-1 (all (rootPasses f) 16 0) (leb (count (needsRec f) 16 0) (freeRecs (w .rec))) (sym (root-pass f) ∙ eq-eqb (rootNumber f) 0 e))
+      picked (ltb (first (refusedAt f) 16 0) 16) (slotNumber f (first (refusedAt f) 16 0)) _ 0 e
+      (λ q n. absurd (true≢false (sym (first-at (refusedAt f) 16 0 (ltb-true (first (refusedAt f) 16 0) 16 q)) ∙ ap not (eq-eqb (slotNumber f (first (refusedAt f) 16 0)) 0 n))))
+      (λ q n. picked (ltb (freeRecs (w .rec)) (count (needsRec f) 16 0)) 15 0 0 n (λ t z. absurd (omega arith)) (λ t z. ltb-false (freeRecs (w .rec)) (count (needsRec f) 16 0) t))
 
   pub root-keeps : root x w s .number ≡ 0 → Sound w → (i : ℕ) → i < 16 → keptAt (rootOf x w s) i ≡ true
       → rootRec (root x w s .w .rec) (slotAt (rootOf x w s) i) ≡ record { found = true; e = take 32 (drop (i * 32) (x .written)) }

@@ -4,21 +4,22 @@ use mathlib.Core.Bool.{not, _&&_, _||_}
 use mathlib.Core.List.{List}
 use mathlib.Core.Path.{_≡_, refl, sym, _∙_, ap}
 use lib.Dec.{eqb}
-use lib.ListN.{length, getD, set, length-set, length-replicate}
+use lib.ListN.{length, getD, set, replicate, length-set, length-replicate, getD-replicate}
 use lib.Seq.{getD-set-same}
 use borrow.Author.Tests.{eqb-true, eqb-false}
 use Rattle.loops.specs.Choices.{either, pick-has}
 use Rattle.loops.specs.Facts.{fold-keeps}
 use Rattle.loops.specs.Found.{found-by}
 use Rattle.loops.specs.Keyed.{noTwice-set}
-use Rattle.loops.specs.declared.Found.the-variants.{Nothing}
+use Rattle.loops.specs.declared.Found.the-variants.{At, Nothing}
 use Rattle.sector.specs.Bytes.{same, zeros}
 use Rattle.vdisk.specs.Drive.{placeOf, dirKindOf}
 use Rattle.vdisk.specs.declared.drive.Place.{Place}
 use Rattle.vdisk.specs.declared.drive.Place.the-variants.{Boot, Fat, Root, Data, Outside}
 use Rattle.vdisk.specs.declared.drive.DirKind.{DirKind}
 use Rattle.vdisk.specs.declared.drive.DirKind.the-variants.{Kind, NoDir}
-use Rattle.records.specs.Records.{maxRecords, rec0}
+use Rattle.records.specs.Records.{maxRecords, noRec, rec0, recIdx}
+use Rattle.records.specs.RecordLaws.{NoRecTwice, recIdx-lt, recIdx-is, recIdx-none, noRecTwice-set}
 use Rattle.records.specs.declared.Rec.{Rec}
 use Rattle.state.specs.State.{maxPairs, maxSlots, pair0, st0, noSt, initial}
 use Rattle.state.specs.Setters.{withBoot, withFat1, withRec, withSt, withStaging, withStageT, withHint, withVer, withLast, withSession, withErr, withN}
@@ -36,12 +37,16 @@ use Rattle.staging.specs.Blocks.{isParked, heldFor, holdingSt, writtenSt}
 use Rattle.staging.specs.Staging.{Staged, slotFor, putInto, intoBlock, withBlock, onMedium, inSlot, claimed, inFound, stage}
 use Rattle.judge.specs.Classify.{SectorWrite, Outcome, refused, unlessShown, bootPasses, boot, fatOf, fat, rootOf, root, dir, otherData, stageOf, outcomeOf, cluster, atPlace, classify}
 use Rattle.write.specs.Write.{Written, takenState, refusedState, settledState, settled, unjudged, wholeSectors, tableFits, write}
-use Rattle.demand1.specs.Admits.{isHost, hintOf}
-use Rattle.demand1.specs.Changes.{Sound, stagingState}
+use Rattle.admits.specs.Admits.{isHost, hintOf}
+use Rattle.demand1.specs.Sound.{Sound}
+use Rattle.demand1.specs.Changes.{stagingState}
 use Rattle.demand1.specs.StageFair.{started, as-was}
 use Rattle.demand1.specs.FatFrame.{apply-cases}
 use Rattle.demand1.specs.RootFrame.{recAt, keep-cases}
 use Rattle.demand1.specs.RootSets.{put-by}
+
+noRecTwice-empty : NoRecTwice (replicate maxRecords rec0)
+noRecTwice-empty i j l m h q = absurd (h (ap (λ (r : Rec). r .slot) (getD-replicate maxRecords i rec0 noRec l)))
 
 pub sound-initial : (first : ℕ) → Sound (initial first)
 unfolding initial
@@ -51,12 +56,21 @@ sound-initial first =
       recs = length-replicate maxRecords rec0;
       slots = length-replicate maxSlots st0;
       one-pair = noTwice-initial first;
+      one-rec = noRecTwice-empty;
       one-slot = noSlotTwice-initial first;
     }
 
-sound-as : (v u : W) → v .pair ≡ u .pair → v .rec ≡ u .rec → v .st ≡ u .st → Sound u → Sound v
+-- it goes by the pairs, the records and the staging slots alone
+pub sound-as : (v u : W) → v .pair ≡ u .pair → v .rec ≡ u .rec → v .st ≡ u .st → Sound u → Sound v
 sound-as v u p r s h =
-    record { pairs = rw p (h .pairs); recs = rw r (h .recs); slots = rw s (h .slots); one-pair = rw p (h .one-pair); one-slot = rw s (h .one-slot) }
+    record {
+      pairs = rw p (h .pairs);
+      recs = rw r (h .recs);
+      slots = rw s (h .slots);
+      one-pair = rw p (h .one-pair);
+      one-rec = rw r (h .one-rec);
+      one-slot = rw s (h .one-slot);
+    }
 
 -- staging slots
 abbrev Slots : List St → Type 0
@@ -64,7 +78,7 @@ Slots ss = (length ss ≡ maxSlots) × NoSlotTwice ss
 
 sound-slots : (v u : W) → v .pair ≡ u .pair → v .rec ≡ u .rec → Slots (v .st) → Sound u → Sound v
 sound-slots v u p r s h =
-    record { pairs = rw p (h .pairs); recs = rw r (h .recs); slots = s .0; one-pair = rw p (h .one-pair); one-slot = s .1 }
+    record { pairs = rw p (h .pairs); recs = rw r (h .recs); slots = s .0; one-pair = rw p (h .one-pair); one-rec = rw r (h .one-rec); one-slot = s .1 }
 
 -- one set for the cluster that it was for
 slots-over : (ss : List St) (i : ℕ) (z : St) → Slots ss → i < maxSlots → z .c ≡ getD ss i noSt .c → Slots (set ss i z)
@@ -147,14 +161,27 @@ module _ (x : SectorWrite) (w : W) (h : Sound w) where
         recs = rw (setPair-only v c a .rec) (g .recs);
         slots = slots-length v c a ∙ g .slots;
         one-pair = noTwice-setPair v c a (g .one-pair);
+        one-rec = rw (setPair-only v c a .rec) (g .one-rec);
         one-slot = noSlotTwice-setPair v c a (g .one-slot);
       }))
       256 0 w h) h
 
-  sound-put : (v : W) (k : ℕ) (r : Rec) → Sound v → Sound (withRec v (set (v .rec) k r))
+  sound-put : (v : W) (k : ℕ) (r : Rec) → Sound v → NoRecTwice (set (v .rec) k r) → Sound (withRec v (set (v .rec) k r))
   unfolding withRec
-  sound-put v k r g =
-      record { pairs = g .pairs; recs = length-set (v .rec) k r ∙ g .recs; slots = g .slots; one-pair = g .one-pair; one-slot = g .one-slot }
+  sound-put v k r g t =
+      record { pairs = g .pairs; recs = length-set (v .rec) k r ∙ g .recs; slots = g .slots; one-pair = g .one-pair; one-rec = t; one-slot = g .one-slot }
+
+  -- a record goes over its root slot's own, or to a free place where it has none
+  put-over : (v : W) (k : ℕ) (r : Rec) → Sound v → recIdx (v .rec) (r .slot) ≡ At k → NoRecTwice (set (v .rec) k r)
+  put-over v k r g e =
+      let u = recIdx-is (v .rec) (r .slot) k e in
+      noRecTwice-set (v .rec) k r (g .one-rec)
+      (λ j l n q. absurd (n (g .one-rec j k l (recIdx-lt (v .rec) (r .slot) k e) (λ y. u .1 (sym q ∙ y)) (q ∙ sym (u .0)))))
+
+  put-new : (v : W) (k : ℕ) (r : Rec) → Sound v → recIdx (v .rec) (r .slot) ≡ Nothing → NoRecTwice (set (v .rec) k r)
+  put-new v k r g e =
+      noRecTwice-set (v .rec) k r (g .one-rec)
+      (λ j l n q. either (eqb (r .slot) 0) (eqb-true (r .slot) 0) (λ y. absurd (recIdx-none (v .rec) (r .slot) j e (eqb-false (r .slot) 0 y) l q)))
 
   sound-root : (f : RootWrite) → Sound (rootState f w)
   unfolding rootState
@@ -162,7 +189,8 @@ module _ (x : SectorWrite) (w : W) (h : Sound w) where
       pick-has Sound (eqb (rootNumber f) 0) _ w
       (fold-keeps Sound (keepAt f)
       (λ i v g. keep-cases f Sound i v (λ q. g)
-      (λ q. put-by Sound v (recAt f i) (λ k e. sound-put v k (recAt f i) g) (λ k e o. sound-put v k (recAt f i) g) (λ e o. g)))
+      (λ q. put-by Sound v (recAt f i) (λ k e. sound-put v k (recAt f i) g (put-over v k (recAt f i) g e))
+      (λ k e o. sound-put v k (recAt f i) g (put-new v k (recAt f i) g e)) (λ e o. g)))
       16 0 w h) h
 
   unless-sound : (o : Outcome) → Sound (o .w) → Sound (unlessShown x w o .w)

@@ -2,7 +2,7 @@
 use Prim.Native.Nat.{ℕ, _<_}
 use mathlib.Core.Bool.{Bool, true, false, not, _&&_, _||_, true≢false, false≢true}
 use mathlib.Core.List.{List}
-use mathlib.Core.Path.{_≡_, refl, sym, _∙_, ap}
+use mathlib.Core.Path.{_≡_, refl, sym, _∙_, ap, subst}
 use native.Mathlib.Omega.{arith}
 use lib.Dec.{eqb}
 use lib.ListN.{length, getD, set, length-set}
@@ -13,6 +13,7 @@ use Rattle.loops.specs.Loops.{pick}
 use Rattle.loops.specs.Choices.{pick-by, or-by, or-no, and-0, and-1}
 use Rattle.loops.specs.Found.{found-by}
 use Rattle.loops.specs.Rows.{rows, rows-same}
+use Rattle.loops.specs.declared.Found.{Found}
 use Rattle.loops.specs.declared.Found.the-variants.{At, Nothing}
 use Rattle.num.specs.Num.{wrappingNext}
 use Rattle.bits.specs.Bit.{setBit}
@@ -32,11 +33,12 @@ use Rattle.staging.specs.Blocks.{isParked, heldFor, blockAt, filledBlock, holdi
 use Rattle.staging.specs.BlockLaws.{bit-le}
 use Rattle.staging.specs.Staging.{Staged, refused, slotFor, moveId, movedIds, putInto, intoBlock, withBlock, onMedium, inSlot, claimed, inFound, stage}
 use Rattle.judge.specs.Classify.{SectorWrite, stageOf, outcomeOf}
-use Rattle.demand1.specs.Changes.{Sound, Same, StageOnly, blockTo, stagingState}
-use Rattle.demand1.specs.Admits.{isPlace, slotPlace, slotAs, slotBefore, takesNone, hintOf}
+use Rattle.admits.specs.Admits.{isPlace, slotPlace, slotAs, slotBefore, parkedSame, takesNone, hintOf}
+use Rattle.demand1.specs.Sound.{Sound}
+use Rattle.demand1.specs.Changes.{Same, StageOnly, blockTo, stagingState, hintAfter}
 use Rattle.demand1.specs.Area.{area-length, area-other, filled-length, free-has}
 use Rattle.demand1.specs.Turns.{rows-still}
-use Rattle.demand1.specs.StageFair.{started, as-was}
+use Rattle.demand1.specs.StageFair.{started, as-was, hint-none, hint-held, hint-searched}
 
 -- the place of a cluster's slot is one of the slots'
 place-lt : (ss : List St) (c i : ℕ) → slotPlace ss c ≡ At i → i < maxSlots
@@ -59,7 +61,7 @@ module _ (x : SectorWrite) (w : W) (c s : ℕ) where
       (λ e. rows-same (moveId (stageOf x c s)) (λ j id. pick (movesRow j id) (setBit id 15) id) (x .ids) (λ j id h. rw e))
 
   abbrev Done : Staged → Type 0
-  Done r = (r .number ≡ 0 → r .changed ≡ true → StageOnly x w c s (outcomeOf r)) × (r .number ≡ 0 → r .changed ≡ false → Same x w (outcomeOf r))
+  Done r = (r .number ≡ 0 → parkedSame x (slotBefore w c) s ≡ false → StageOnly x w c s (outcomeOf r)) × (r .number ≡ 0 → r .changed ≡ false → Same x w (outcomeOf r))
 
   not-taken : (r : Staged) → (r .number ≡ 0 → ⊥) → Done r
   not-taken r h = (λ e. absurd (h e), λ e. absurd (h e))
@@ -83,7 +85,7 @@ module _ (x : SectorWrite) (w : W) (c s : ℕ) where
     unfolding stagingState withVer withHint withStageT withStaging withSt
     done-zero z r t e a j = (
       λ n q. record {
-        state = e ∙ rw e;
+        state = rw (hint-none x w c s y before z) (e ∙ rw e);
         slots = λ k h. rw e (others (writtenSt y s) k h);
         ids = j ∙ ids-zero (and-1 (eqb (heldFor y s) 0) (zeros (x .written)) z);
         slot = λ g k h. rw (e, before, z) (the-slot (writtenSt y s) g k h);
@@ -94,14 +96,14 @@ module _ (x : SectorWrite) (w : W) (c s : ℕ) where
       λ n q. absurd (true≢false (sym t ∙ q)),
     )
 
-    done-put : (hint b : ℕ) → takesNone x y s ≡ false → b ≡ blockTo x w c s → hasBlock (x .fat) (x .area) b ≡ true
+    done-put : (hint b : ℕ) → hintAfter x w c s ≡ hint → takesNone x y s ≡ false → b ≡ blockTo x w c s → hasBlock (x .fat) (x .area) b ≡ true
         → ((heldFor y s ≡ 0 → ⊥) → InArea (x .area) (heldFor y s)) → Done (putInto (stageOf x c s) (stagingState w ss hint) i y b)
     unfolding putInto stagingState withVer withHint withStageT withStaging withSt
-    done-put hint b z e m f =
+    done-put hint b t z e m f =
         let l = filled-length (x .area) y s (x .written) wide f in
         let a = block-in (x .fat) (x .area) b m in (
           λ n q. record {
-            state = refl;
+            state = rw t;
             slots = λ k h. others (holdingSt y s b) k h;
             ids = ids-moved;
             slot = λ g k h. rw (before, z, ← e) (the-slot (holdingSt y s b) g k h);
@@ -118,14 +120,14 @@ module _ (x : SectorWrite) (w : W) (c s : ℕ) where
     held-in q h =
         or-by (eqb (heldFor y s) 0) (hasBlock (x .fat) (x .area) (heldFor y s)) q (λ z. absurd (h (eqb-true (heldFor y s) 0 z))) (λ z. z)
 
-    done-into : (hint b : ℕ) → takesNone x y s ≡ false → b ≡ blockTo x w c s
+    done-into : (hint b : ℕ) → hintAfter x w c s ≡ hint → takesNone x y s ≡ false → b ≡ blockTo x w c s
         → ((eqb (heldFor y s) 0 || hasBlock (x .fat) (x .area) (heldFor y s)) ≡ true → hasBlock (x .fat) (x .area) b ≡ true)
         → Done (intoBlock (stageOf x c s) (stagingState w ss hint) i y b)
     unfolding intoBlock
-    done-into hint b z e m =
+    done-into hint b t z e m =
         pick-by Done (eqb (heldFor y s) 0 || hasBlock (x .fat) (x .area) (heldFor y s)) (putInto (stageOf x c s) (stagingState w ss hint) i y b)
         (refused (stageOf x c s) 17 (stagingState w ss hint))
-        (λ q. done-put hint b z e (m q) (λ h. block-in (x .fat) (x .area) (heldFor y s) (held-in q h)))
+        (λ q. done-put hint b t z e (m q) (λ h. block-in (x .fat) (x .area) (heldFor y s) (held-in q h)))
         (λ q. not-taken (refused (stageOf x c s) 17 (stagingState w ss hint)) (λ r. omega arith))
 
     to-free : (eqb (heldFor y s) 0 || isParked y s) ≡ true → nextFree (x .fat) (hintOf w) .block ≡ blockTo x w c s
@@ -144,17 +146,17 @@ module _ (x : SectorWrite) (w : W) (c s : ℕ) where
         (pick (n .found) (intoBlock (stageOf x c s) (stagingState w ss (n .hint)) i y (n .block)) (refused (stageOf x c s) 18 (stagingState w ss (n .hint))))
         (intoBlock (stageOf x c s) (stagingState w ss (hintOf w)) i y (heldFor y s))
         (λ q. pick-by Done (n .found) (intoBlock (stageOf x c s) (stagingState w ss (n .hint)) i y (n .block)) (refused (stageOf x c s) 18 (stagingState w ss (n .hint)))
-        (λ f. done-into (n .hint) (n .block) z (to-free q) (λ r. free-has (x .fat) (x .area) (hintOf w) m f))
+        (λ f. done-into (n .hint) (n .block) (hint-searched x w c s y before z m q) z (to-free q) (λ r. free-has (x .fat) (x .area) (hintOf w) m f))
         (λ f. not-taken (refused (stageOf x c s) 18 (stagingState w ss (n .hint))) (λ r. omega arith)))
         (λ q. let h : heldFor y s ≡ 0 → ⊥ = eqb-false (heldFor y s) 0 (or-no (eqb (heldFor y s) 0) (isParked y s) q .0) in
-        done-into (hintOf w) (heldFor y s) z (to-held q) (λ r. held-in r h))
+        done-into (hintOf w) (heldFor y s) (hint-held x w c s y before q) z (to-held q) (λ r. held-in r h))
 
     done-slot : Done (inSlot (stageOf x c s) (withSt w ss) i y)
     unfolding inSlot onMedium withVer stagingState withSt withHint withStageT withStaging
     done-slot =
         pick-by Done (isParked y s && same (sectorOf (x .fat) (x .area) y s) (x .written)) _ _
         (λ q. (
-          λ n t. absurd (false≢true t),
+          λ n t. absurd (true≢false (sym (rw before q) ∙ t)),
           λ n t. record { state = ap (withSt w) (own (and-0 (isParked y s) (same (sectorOf (x .fat) (x .area) y s) (x .written)) q)); ids = refl; area = refl },
         ))
         (λ q. rw (started w ss)
@@ -167,16 +169,17 @@ module _ (x : SectorWrite) (w : W) (c s : ℕ) where
     unfolding claimed slotPlace isPlace slotAs isParked
     done-claimed e =
         found-by (freeSlot (w .st))
-        (λ i f. rw f (done-slot (set (w .st) i (slotFor c)) i (slotFor c) (rw (e, f)) (rw e) (length-set (w .st) i (slotFor c)) (λ k h. getD-set-other (w .st) i k (slotFor c) noSt h)
+        (λ i f. subst (λ (g : Found). Done (claimed (stageOf x c s) w g)) (sym f)
+        (done-slot (set (w .st) i (slotFor c)) i (slotFor c) (rw (e, f)) (rw e) (length-set (w .st) i (slotFor c)) (λ k h. getD-set-other (w .st) i k (slotFor c) noSt h)
         (λ q. let z = bit-le 0 (blockAt s) q in let p = pow-pos (blockAt s) in absurd (omega arith)) wide))
-        (λ f. rw f (not-taken (refused (stageOf x c s) 16 w) (λ r. omega arith)))
+        (λ f. subst (λ (g : Found). Done (claimed (stageOf x c s) w g)) (sym f) (not-taken (refused (stageOf x c s) 16 w) (λ r. omega arith)))
 
     done-found : Done (inFound (stageOf x c s) w (slotOf (w .st) c))
     unfolding inFound slotPlace isPlace slotAs
     done-found =
         found-by (slotOf (w .st) c)
-        (λ i e. rw e (rw (as-was w) at (done-slot (w .st) i (getD (w .st) i noSt) (rw e) (rw e) refl (λ k h. refl) (λ q. refl) wide)))
-        (λ e. rw e (done-claimed e))
+        (λ i e. subst (λ (g : Found). Done (inFound (stageOf x c s) w g)) (sym e) (rw (as-was w) at (done-slot (w .st) i (getD (w .st) i noSt) (rw e) (rw e) refl (λ k h. refl) (λ q. refl) wide)))
+        (λ e. subst (λ (g : Found). Done (inFound (stageOf x c s) w g)) (sym e) (done-claimed e))
 
     pub done-stage : Done (stage (stageOf x c s) w)
     unfolding stage

@@ -1,0 +1,201 @@
+-- Which sectors the rules of document 01 admit, place by place and without a number (document 01, "Judging a sector"). Boot, root and directory
+-- sectors are judged here byte by byte, as the paper's sentences are; that the handlers' own tests say the same is proved in AdmitLaws.
+use Prim.Native.Nat.{ℕ, _+_, _*_, _/_, _%_}
+use mathlib.Core.Bool.{Bool, true, false, not, _&&_, _||_}
+use mathlib.Core.List.{List}
+use lib.Dec.{leb, ltb, eqb}
+use lib.ListN.{length, getD}
+use Rattle.loops.specs.Loops.{pick, all, some, count}
+use Rattle.loops.specs.declared.Found.{Found}
+use Rattle.loops.specs.declared.Found.the-variants.{At, Nothing}
+use Rattle.sector.specs.Bytes.{same, zeros}
+use Rattle.vdisk.specs.Drive.{placeOf, dirKindOf}
+use Rattle.vdisk.specs.Ids.{turned, kindOf}
+use Rattle.vdisk.specs.declared.drive.Place.{Place}
+use Rattle.vdisk.specs.declared.drive.Place.the-variants.{Boot, Fat, Root, Data, Outside}
+use Rattle.vdisk.specs.declared.drive.DirKind.{DirKind}
+use Rattle.vdisk.specs.declared.drive.DirKind.the-variants.{Kind, NoDir}
+use Rattle.vdisk.specs.declared.owner.Own.{Own}
+use Rattle.vdisk.specs.declared.owner.Own.the-variants.{Reserved, Fixed, Dyn, Free}
+use Rattle.records.specs.Records.{maxRecords, noRec}
+use Rattle.records.specs.declared.Rec.{Rec}
+use Rattle.names.specs.Names.{longName}
+use Rattle.housekeeping.specs.Housekeeping.{isHousekeeping}
+use Rattle.state.specs.State.{noSt}
+use Rattle.state.specs.Pairs.{freePairs}
+use Rattle.state.specs.Staged.{slotOf, freeSlot}
+use Rattle.state.specs.declared.w.St.{St}
+use Rattle.state.specs.declared.w.W.{W}
+use Rattle.medium.specs.Medium.{isMedium, hasBlock, nextFree}
+use Rattle.medium.specs.Reads.{sectorOf}
+use Rattle.clusters.specs.Clusters.{isLive, hostCluster}
+use Rattle.fat_sectors.specs.Fat.{FatWrite, clusterAt, valueAt, changedAt, ownerAt, zeroesFile, needsPair}
+use Rattle.fat_sectors.specs.Values.{fat1Passes, hostValue}
+use Rattle.staging.specs.Blocks.{isParked, heldFor}
+use Rattle.staging.specs.Staging.{slotFor}
+use Rattle.judge.specs.Classify.{SectorWrite, fatOf}
+use Rattle.write.specs.Write.{wholeSectors, tableFits}
+use Rattle.admits.specs.Bytes.{onlyBytes, slotIn, byteIn, entryAt, keptSlot, dateByte}
+
+-- a host cluster's sector is staged; elsewhere one equal to the shown one is accepted
+abbrev pub isHost : SectorWrite → W → ℕ → Bool
+isHost x w c = hostCluster (x .ids) (x .starts) (x .sizes) (w .first) (w .pair) c
+
+abbrev pub asShown : SectorWrite → Bool
+asShown x = same (x .shown) (x .written)
+
+-- Boot: "only byte 0x25 may differ"
+unfoldable pub bootAdmits : SectorWrite → Bool
+bootAdmits x = onlyBytes x (λ n. eqb n 0x25)
+
+-- FAT: a Reserved or Fixed cluster's entry may not change; a live file's must become 0 with all its entries in this sector; others take a host
+-- value
+unfoldable pub ownPasses : FatWrite → ℕ → Own → Bool
+ownPasses f i Reserved = false
+ownPasses f i Fixed = false
+ownPasses f i (Dyn j) =
+    pick (isLive (f .ids) (f .pairs) j (clusterAt f i)) (eqb (valueAt f i) 0 && zeroesFile f j) (hostValue (valueAt f i))
+ownPasses f i Free = hostValue (valueAt f i)
+
+-- FAT[0] may not change, FAT[1] by its value
+unfoldable pub entryPasses : FatWrite → ℕ → Bool
+entryPasses f i =
+    pick (changedAt f i)
+    (pick (eqb (clusterAt f i) 0) false (pick (eqb (clusterAt f i) 1) (fat1Passes (valueAt f i)) (ownPasses f i (ownerAt f i))))
+    true
+
+-- and there is a place for every new pair
+unfoldable pub fatAdmits : FatWrite → Bool
+fatAdmits f = all (entryPasses f) 256 0 && leb (count (needsPair f) 256 0) (freePairs (f .pairs))
+
+-- Root: "DM40*.BIN", in letters of either case
+unfoldable pub letter : List ℕ → ℕ → ℕ → Bool
+letter e b upper = eqb (getD e b 0) upper || eqb (getD e b 0) (upper + 32)
+
+unfoldable pub isUpdateFile : List ℕ → Bool
+isUpdateFile e =
+    letter e 0 0x44 && letter e 1 0x4D && eqb (getD e 2 0) 0x34 && eqb (getD e 3 0) 0x30 && letter e 8 0x42 && letter e 9 0x49 && letter e 10 0x4E
+
+-- "attribute bit 3" and bit 4, a directory; a long entry has the low six bits 0x0F
+unfoldable pub attrBit : List ℕ → ℕ → Bool
+attrBit e weight = eqb (getD e 0x0B 0 / weight % 2) 1
+
+unfoldable pub isLongEntry : List ℕ → Bool
+isLongEntry e = eqb (getD e 0x0B 0 % 64) 15
+
+-- the start, in two bytes, and the size, in four
+unfoldable pub startIn : List ℕ → ℕ
+startIn e = getD e 0x1A 0 + 256 * getD e 0x1B 0
+
+unfoldable pub sizeIn : List ℕ → ℕ
+sizeIn e = getD e 0x1C 0 + 256 * getD e 0x1D 0 + 65536 * getD e 0x1E 0 + 16777216 * getD e 0x1F 0
+
+-- "one of ten housekeeping prefixes, or DM40*.BIN that is no directory, at most 638,988 bytes": house is whether the slot's name is housekeeping
+unfoldable pub nameAdmits : List ℕ → Bool → Bool
+nameAdmits e house = house || (not (attrBit e 16) && isUpdateFile e && leb (sizeIn e) 638988)
+
+-- "first byte 0 refused; 0xE5 or a long entry passes; attribute bit 3, a non-zero word at 0x14, or a start neither 0 nor host refused": host is
+-- whether the start is a host cluster
+unfoldable pub entryAdmits : List ℕ → Bool → Bool → Bool
+entryAdmits e host house =
+    not (eqb (getD e 0 0) 0)
+    && (eqb (getD e 0 0) 0xE5 || isLongEntry e
+    || (not (attrBit e 8) && eqb (getD e 0x14 0) 0 && eqb (getD e 0x15 0) 0 && (eqb (startIn e) 0 || host) && nameAdmits e house))
+
+-- host slot i of root sector s as written, root slot s * 16 + i
+unfoldable pub hostSlotAdmits : SectorWrite → W → ℕ → ℕ → Bool
+hostSlotAdmits x w s i =
+    entryAdmits (entryAt x i) (isHost x w (startIn (entryAt x i))) (isHousekeeping (longName (w .rec) (x .written) (s * 16) (s * 16 + i)))
+
+-- "slots 0 to 6 may change in dates"; a byte of another slot may differ where that slot is admitted
+unfoldable pub rootByte : SectorWrite → W → ℕ → ℕ → Bool
+rootByte x w s n = pick (leb (s * 16 + slotIn n) 6) (dateByte (byteIn n)) (hostSlotAdmits x w s (slotIn n))
+
+-- a changed host slot without a record needs a place; "then 15, of 10 places"
+unfoldable pub hasRecord : List Rec → ℕ → Bool
+hasRecord recs k = some (λ r. eqb (getD recs r noRec .slot) k) maxRecords 0
+
+unfoldable pub needsPlace : SectorWrite → W → ℕ → ℕ → Bool
+needsPlace x w s i = leb 7 (s * 16 + i) && not (keptSlot x i) && not (hasRecord (w .rec) (s * 16 + i))
+
+unfoldable pub rootAdmits : SectorWrite → W → ℕ → Bool
+rootAdmits x w s =
+    onlyBytes x (rootByte x w s) && leb (count (needsPlace x w s) 16 0) (count (λ r. eqb (getD (w .rec) r noRec .slot) 0) maxRecords 0)
+
+-- Directory k: file j is an unturned file of that directory and slot. Kinds 0 to 2 are shown in their directory, kind 3 in directory 0; INFO and
+-- DEBUG, of which k is 3, show none.
+unfoldable pub shownIn : ℕ → ℕ → Bool
+shownIn kind k = (ltb kind 3 && eqb kind k) || (eqb kind 3 && eqb k 0)
+
+unfoldable pub unturnedAt : SectorWrite → ℕ → ℕ → ℕ → Bool
+unturnedAt x k slot j = shownIn (kindOf (getD (x .ids) j 0)) k && eqb (getD (x .slots) j 0) slot && not (turned (getD (x .ids) j 0))
+
+-- "a turn": byte 0 of a slot becomes 0xE5, and was not, where such a file is
+unfoldable pub turnByte : SectorWrite → ℕ → ℕ → ℕ → Bool
+turnByte x k s n =
+    eqb (byteIn n) 0 && eqb (getD (x .written) n 0) 0xE5 && not (eqb (getD (x .shown) n 0) 0xE5)
+    && some (unturnedAt x k (s * 16 + slotIn n)) (length (x .ids)) 0
+
+-- "dates are dropped; a turn ..; anything else is 9"
+unfoldable pub dirAdmits : SectorWrite → ℕ → ℕ → Bool
+dirAdmits x k s = onlyBytes x (λ n. dateByte (byteIn n) || turnByte x k s n)
+
+-- the staging slot of a cluster: its own, else the first free of 28
+unfoldable pub isPlace : Found → Bool
+isPlace (At i) = true
+isPlace Nothing = false
+
+unfoldable pub slotPlace : List St → ℕ → Found
+slotPlace ss c = pick (isPlace (slotOf ss c)) (slotOf ss c) (freeSlot ss)
+
+-- that slot as the sector finds it
+unfoldable pub slotAs : List St → ℕ → Found → St
+slotAs ss c (At i) = getD ss i noSt
+slotAs ss c Nothing = slotFor c
+
+abbrev pub slotBefore : W → ℕ → St
+slotBefore w c = slotAs (w .st) c (slotOf (w .st) c)
+
+-- "in a parked block a sector equal to what `staged_read` shows is accepted unchanged"
+abbrev pub parkedSame : SectorWrite → St → ℕ → Bool
+parkedSame x y s = isParked y s && same (sectorOf (x .fat) (x .area) y s) (x .written)
+
+-- no block is held for the sector, or a parked one: it goes to a new one
+abbrev pub needsBlock : St → ℕ → Bool
+needsBlock y s = eqb (heldFor y s) 0 || isParked y s
+
+-- an all-zero sector of a block not held takes no block
+abbrev pub takesNone : SectorWrite → St → ℕ → Bool
+takesNone x y s = eqb (heldFor y s) 0 && zeros (x .written)
+
+-- the hint that a search for a new one starts from
+abbrev pub hintOf : W → ℕ
+hintOf w = pick (w .staging) (w .hint) 2
+
+-- Staging into slot y: as `staged_read` shows it, in a parked block; or without a block; or the medium has the block held, and one free where
+-- it is needed
+unfoldable pub slotAdmits : SectorWrite → W → ℕ → St → Bool
+slotAdmits x w s y =
+    parkedSame x y s
+    || takesNone x y s
+    || (isMedium (x .fat) (x .area)
+    && (not (needsBlock y s) || nextFree (x .fat) (hintOf w) .found)
+    && (eqb (heldFor y s) 0 || hasBlock (x .fat) (x .area) (heldFor y s)))
+
+unfoldable pub stageAdmits : SectorWrite → W → ℕ → ℕ → Bool
+stageAdmits x w c s = not (x .busy) && (isPlace (slotPlace (w .st) c) && slotAdmits x w s (slotBefore w c))
+
+unfoldable pub clusterAdmits : SectorWrite → W → ℕ → ℕ → DirKind → Bool
+clusterAdmits x w c s (Kind k) = dirAdmits x k s
+clusterAdmits x w c s NoDir = pick (isHost x w c) (stageAdmits x w c s) (asShown x)
+
+unfoldable pub placeAdmits : SectorWrite → W → Place → Bool
+placeAdmits x w Boot = bootAdmits x
+placeAdmits x w (Fat s) = asShown x || fatAdmits (fatOf x w s)
+placeAdmits x w (Root s) = rootAdmits x w s
+placeAdmits x w (Data c s) = clusterAdmits x w c s (dirKindOf c)
+placeAdmits x w Outside = false
+
+-- both sectors have 512 bytes, the table fits, writing is on, and the place admits it
+unfoldable pub admits : SectorWrite → W → Bool
+admits x w = wholeSectors x && (tableFits x w && (w .rw && placeAdmits x w (placeOf (x .lba))))

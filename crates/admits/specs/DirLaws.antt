@@ -1,0 +1,168 @@
+-- A directory sector is taken by its handler exactly where the rules admit its bytes.
+use Prim.Native.Nat.{ℕ, _+_, _*_, _<_, _≤_}
+use mathlib.Core.Bool.{Bool, true, false, not, _&&_, _||_, true≢false}
+use mathlib.Core.Path.{_≡_, refl, sym, _∙_, ap}
+use native.Mathlib.Omega.{arith}
+use lib.Dec.{ltb, eqb}
+use lib.ListN.{length, getD}
+use borrow.Author.Tests.{ltb-true, ltb-false, lt-ltb, le-ltb, eqb-true, eqb-false, eq-eqb, ne-eqb, not-true}
+use Rattle.loops.specs.Loops.{all, some}
+use Rattle.loops.specs.Choices.{either, or-by, and-0, and-1, and-no}
+use Rattle.loops.specs.Facts.{all-at, some-in, some-at}
+use Rattle.loops.specs.Found.{find, found-by, find-lt, find-is, find-none, find-same}
+use Rattle.vdisk.specs.Ids.{kindOf, idDirOf, dirOf as dirOfKind}
+use Rattle.slots.specs.Slots.{dateAt, datesOnly, turnAt}
+use Rattle.root_slots.specs.OrLaws.{or-none}
+use Rattle.dir_sectors.specs.Dir.{fileAt, rowOf, turnedBy, isFound, slotPasses, dirNumber}
+use Rattle.judge.specs.Classify.{SectorWrite, dirOf}
+use Rattle.admits.specs.Bytes.{keptByte, onlyBytes, byteIn, inField, dateByte}
+use Rattle.admits.specs.Admits.{shownIn, unturnedAt, turnByte, dirAdmits}
+use Rattle.admits.specs.ByteLaws.{all-same, all-first, eqb-sym, slot-is, byte-is, by-slots, slotDates, date-byte, dates-slot}
+use Rattle.admits.specs.ZeroLaws.{pass-pick}
+
+-- the directory that shows a kind is one of three
+shown-in : (kind k : ℕ) → kind < 4 → shownIn kind k ≡ eqb (dirOfKind kind) k
+unfolding shownIn dirOfKind
+shown-in kind k l =
+    either (eqb kind 3)
+    (λ e. let q = eqb-true kind 3 e in rw (e, le-ltb kind 3 (omega arith)) (eqb-sym k 0))
+    (λ e. let q = eqb-false kind 3 e in rw (e, lt-ltb kind 3 (omega arith)) (or-none (eqb kind k) false refl))
+
+shown-lt : (kind k : ℕ) → ltb k 3 ≡ false → shownIn kind k ≡ false
+unfolding shownIn
+shown-lt kind k e =
+    let l = ltb-false k 3 e in
+    rw (ne-eqb k 0 (λ q. omega arith), and-no (eqb kind 3) false refl)
+    (or-none (ltb kind 3 && eqb kind k) false refl
+    ∙ either (ltb kind 3) (λ q. let h = ltb-true kind 3 q in rw (q, ne-eqb kind k (λ z. omega arith))) (λ q. rw q))
+
+-- something is found exactly where one is so
+found-some : (p : ℕ → Bool) (n : ℕ) → isFound (find p n) ≡ some p n 0
+unfolding isFound
+found-some p n =
+    found-by (find p n)
+    (λ i e. let l = find-lt p n i e in rw e (sym (some-at p n 0 i (omega arith) (omega arith) (find-is p n i e))))
+    (λ e. rw e (either (some p n 0)
+    (λ t. some-in p n 0 t (λ j a b q. absurd (true≢false (sym q ∙ find-none p n j e (omega arith)))))
+    (λ t. sym t)))
+
+-- byte 0 is kept or turns a file, the others are kept or dates
+slot-tests : (kept wrote was file others : Bool)
+    → ((kept || (wrote && not was && file)) && others) ≡ (kept && others || (not was && wrote && others && file))
+slot-tests true wrote was file true = refl
+slot-tests true true true file false = refl
+slot-tests true true false file false = refl
+slot-tests true false true file false = refl
+slot-tests true false false file false = refl
+slot-tests false true true file others = refl
+slot-tests false true false true true = refl
+slot-tests false true false true false = refl
+slot-tests false true false false true = refl
+slot-tests false true false false false = refl
+slot-tests false false true file others = refl
+slot-tests false false false file others = refl
+
+-- no date stands at byte 0
+date-0 : dateByte 0 ≡ false
+unfolding dateByte inField
+date-0 = refl
+
+module _ (x : SectorWrite) (k s : ℕ) where
+  unturned-same : (n j : ℕ) → fileAt (dirOf x k s) n j ≡ unturnedAt x k n j
+  unfolding unturnedAt fileAt idDirOf
+  unturned-same n j = rw (shown-in (kindOf (getD (x .ids) j 0)) k (omega arith))
+
+  abbrev isFile : ℕ → Bool
+  isFile i = some (unturnedAt x k (s * 16 + i)) (length (x .ids)) 0
+
+  no-file : (i : ℕ) → ltb k 3 ≡ false → isFile i ≡ false
+  unfolding unturnedAt
+  no-file i e =
+      either (isFile i)
+      (λ t. some-in (unturnedAt x k (s * 16 + i)) (length (x .ids)) 0 t
+      (λ j a b q. absurd (true≢false (sym q ∙ rw (shown-lt (kindOf (getD (x .ids) j 0)) k e)))))
+      (λ t. t)
+
+  turned-same : (i : ℕ) → isFound (turnedBy (dirOf x k s) i) ≡ (turnAt (x .shown) (x .written) (i * 32) && isFile i)
+  unfolding turnedBy rowOf isFound
+  turned-same i =
+      either (ltb k 3)
+      (λ e. rw e (either (turnAt (x .shown) (x .written) (i * 32))
+      (λ t. rw (t, find-same (fileAt (dirOf x k s) (s * 16 + i)) (unturnedAt x k (s * 16 + i)) (length (x .ids)) (λ j h. unturned-same (s * 16 + i) j))
+      (found-some (unturnedAt x k (s * 16 + i)) (length (x .ids))))
+      (λ t. rw t)))
+      (λ e. rw (e, no-file i e, and-no (turnAt (x .shown) (x .written) (i * 32)) false refl))
+
+  abbrev dirByte : ℕ → Bool
+  dirByte n = keptByte x n || (dateByte (byteIn n) || turnByte x k s n)
+
+  abbrev dateOf : ℕ → ℕ → Bool
+  dateOf i b = keptByte x (i * 32 + b) || dateByte b
+
+  byte-0 : (i : ℕ) → dirByte (i * 32 + 0)
+      ≡ (keptByte x (i * 32 + 0) || (eqb (getD (x .written) (i * 32) 0) 0xE5 && not (eqb (getD (x .shown) (i * 32) 0) 0xE5) && isFile i))
+  unfolding dateByte inField turnByte
+  byte-0 i =
+      let q : i * 32 + 0 ≡ i * 32 = omega arith in
+      rw (byte-is i 0 (omega arith), slot-is i 0 (omega arith), q)
+
+  byte-b : (i b : ℕ) → 1 ≤ b → b < 32 → dirByte (i * 32 + b) ≡ dateOf i b
+  unfolding turnByte
+  byte-b i b l h = rw (byte-is i b h, ne-eqb b 0 (λ q. omega arith), or-none (dateByte b) false refl)
+
+  abbrev others : ℕ → Bool
+  others i = all (dateOf i) 31 1
+
+  dates-first : (i : ℕ) → slotDates x i ≡ (keptByte x (i * 32 + 0) && others i)
+  unfolding slotDates
+  dates-first i = all-first (dateOf i) 31 0 ∙ ap (λ (b : Bool). b && others i) (no-date i)
+    where
+      no-date : (i : ℕ) → dateOf i 0 ≡ keptByte x (i * 32 + 0)
+      no-date i = rw date-0 (or-none (keptByte x (i * 32 + 0)) false refl)
+
+  turn-first : (i : ℕ) → turnAt (x .shown) (x .written) (i * 32)
+      ≡ (not (eqb (getD (x .shown) (i * 32) 0) 0xE5) && eqb (getD (x .written) (i * 32) 0) 0xE5 && others i)
+  unfolding turnAt
+  turn-first i = rw (all-same (dateOf i) (dateAt (x .shown) (x .written) (i * 32)) 31 1 (λ b l h. date-byte x i b (omega arith)))
+
+  slot-pass : (i : ℕ) → all (λ b. dirByte (i * 32 + b)) 32 0 ≡ slotPasses (dirOf x k s) i
+  unfolding slotPasses
+  slot-pass i =
+      all-first (λ b. dirByte (i * 32 + b)) 31 0
+      ∙ rw (byte-0 i, all-same (λ b. dirByte (i * 32 + b)) (dateOf i) 31 1 (λ b l h. byte-b i b l (omega arith)))
+      (slot-tests (keptByte x (i * 32 + 0)) (eqb (getD (x .written) (i * 32) 0) 0xE5) (eqb (getD (x .shown) (i * 32) 0) 0xE5) (isFile i) (others i)
+      ∙ rw (← dates-slot x i, dates-first i, turned-same i, turn-first i))
+
+  pub dir-pass : eqb (dirNumber (dirOf x k s)) 0 ≡ dirAdmits x k s
+  unfolding dirNumber dirAdmits onlyBytes
+  dir-pass =
+      pass-pick (all (slotPasses (dirOf x k s)) 16 0) 9 refl
+      ∙ sym (by-slots dirByte ∙ all-same (λ i. all (λ b. dirByte (i * 32 + b)) 32 0) (slotPasses (dirOf x k s)) 16 0 (λ i l h. slot-pass i))
+
+  -- a turn is more than dates
+  pub turn-dates : (i : ℕ) → isFound (turnedBy (dirOf x k s) i) ≡ true → slotDates x i ≡ false
+  unfolding keptByte
+  turn-dates i e =
+      let t : (not was && wrote && others i && isFile i) ≡ true = rw (turned-same i, turn-first i) at e in
+      let a = and-0 (not was && wrote) (others i) (and-0 (not was && wrote && others i) (isFile i) t) in
+      let was-not = not-true was (and-0 (not was) wrote a) in
+      let q : i * 32 + 0 ≡ i * 32 = omega arith in
+      let differs : keptByte x (i * 32 + 0) ≡ false =
+      rw (q, eqb-true (getD (x .written) (i * 32) 0) 0xE5 (and-1 (not was) wrote a)) (eqb-sym 0xE5 (getD (x .shown) (i * 32) 0) ∙ was-not) in
+      dates-first i ∙ rw differs
+    where
+      was : Bool
+      was = eqb (getD (x .shown) (i * 32) 0) 0xE5
+
+      wrote : Bool
+      wrote = eqb (getD (x .written) (i * 32) 0) 0xE5
+
+  -- of a sector that is taken, a slot that turns no file differs in dates at most
+  pub taken-dates : dirNumber (dirOf x k s) ≡ 0 → (i : ℕ) → i < 16 → isFound (turnedBy (dirOf x k s) i) ≡ false → slotDates x i ≡ true
+  unfolding dirNumber slotPasses
+  taken-dates n i h e =
+      let a = sym (pass-pick (all (slotPasses (dirOf x k s)) 16 0) 9 refl) ∙ eq-eqb (dirNumber (dirOf x k s)) 0 n in
+      let p : (datesOnly (x .shown) (x .written) (i * 32) || isFound (turnedBy (dirOf x k s) i)) ≡ true =
+      all-at (slotPasses (dirOf x k s)) 16 0 i a (omega arith) (omega arith) in
+      or-by (datesOnly (x .shown) (x .written) (i * 32)) (isFound (turnedBy (dirOf x k s) i)) p
+      (λ q. dates-slot x i ∙ q) (λ q. absurd (true≢false (sym q ∙ e)))

@@ -1,0 +1,1 @@
+// Which sectors the rules admit, over the definitions: nothing runs here.

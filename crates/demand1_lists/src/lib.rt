@@ -1,0 +1,1 @@
+// Demand 1 along every list of calls, over the definitions: nothing runs here.

@@ -1,0 +1,1 @@
+// Which taken sectors open the session, over the definitions: nothing runs here.
