@@ -251,11 +251,13 @@ vwrite_handed vwrite_find_handed(const vwrite_file *files, size_t nfiles);
 uint8_t vwrite_report_gone(vwrite_file *files, size_t nfiles, size_t row);
 
 /* Why a file is handed, or what is missing, for programs that tell it. Of one file: what the calls held of it since the start, or since the completed
- * release that last left it unmarked. A file is handed only if it was turned, and zeroed or named. All false at the start; then kept up after every
- * call by the three functions below. */
+ * release that last left it unmarked. A file is handed only if it was turned, and zeroed or named. It has moved where a staged sector named it at its
+ * turn or was staged after it, and is named where one still does at a release after that. All false at the start; then kept up after every call by
+ * the three functions below. */
 typedef struct {
     bool turned;
     bool zeroed;
+    bool moved;
     bool named;
     bool gone;
 } vwrite_reason;
@@ -268,9 +270,10 @@ typedef struct {
 vwrite_named_answer vwrite_named(const vwrite_state *w, const uint16_t *fat, size_t nfat, const uint8_t *area, size_t narea, uint16_t start,
                                  uint32_t size);
 
-/* After vwrite_write, which answered number. id, slot, start and size are the file's. */
+/* After vwrite_write, which answered number. id, slot, start and size are the file's. named: whether a staged sector named the file before the call
+ * (vwrite_named). staged: whether the write staged its sector, which is where the state's ver is another than before. */
 vwrite_reason vwrite_after_write(vwrite_reason r, uint16_t id, uint16_t slot, uint16_t start, uint32_t size, uint8_t number, uint32_t lba,
-                                 const uint8_t *shown, size_t nshown, const uint8_t *written, size_t nwritten);
+                                 const uint8_t *shown, size_t nshown, const uint8_t *written, size_t nwritten, bool named, bool staged);
 
 /* After a call that answered a vwrite_end: its ended, the file's id then, and whether a staged sector named the file before the call. */
 vwrite_reason vwrite_after_end(vwrite_reason r, uint8_t ended, uint16_t id, bool named);

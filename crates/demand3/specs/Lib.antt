@@ -5,3 +5,4 @@ pub mod Induct
 pub mod Ends
 pub mod Releases
 pub mod Theorem
+pub mod EitherLaws

@@ -6,7 +6,7 @@ use mathlib.Core.Path.{_≡_, sym, _∙_, ap}
 use native.Mathlib.Omega.{arith}
 use lib.ListN.{length, getD}
 use Rattle.loops.specs.Loops.{pick}
-use Rattle.loops.specs.Choices.{pick-by, pick-has, and-0, and-1, or-by, or-l, or-r}
+use Rattle.loops.specs.Choices.{pick-by, pick-has, and-0, and-1, and-of, or-by, or-l, or-r}
 use Rattle.loops.specs.Rows.{rows, rows-at, rows-length}
 use Rattle.bits.specs.Bit.{setBit}
 use Rattle.bits.specs.Laws.{bit-set-same, bit-set-below, bit-set-above}
@@ -38,6 +38,10 @@ module _ (id : ℕ) where
   handed-gone =
       bit-set-above (setBit (cleared id) 12) 13 14 (omega arith) ∙ bit-set-above (cleared id) 12 14 (omega arith) ∙ cleared-marks id .2
 
+  handed-moved : moved (handedId id) ≡ false
+  handed-moved =
+      bit-set-above (setBit (cleared id) 12) 13 15 (omega arith) ∙ bit-set-above (cleared id) 12 15 (omega arith) ∙ cleared-marks id .3
+
   handed-low : handedId id % 4096 ≡ id % 4096
   handed-low = set-low (setBit (cleared id) 12) 13 (omega arith) ∙ set-low (cleared id) 12 (omega arith) ∙ twice id
     where
@@ -59,8 +63,11 @@ module _ (t : Table) (s : Session) (m : Medium) (k : Kept t (s .ids) (s .w)) (j 
   unfolding releasedIds releaseId
   row-at = let r = k .rows in rows-at (releaseId (lent t s m) (s .w .st)) (s .ids) j (omega arith)
 
-  -- a file that stays handed was turned, not gone, and freed or named
-  on-of : on ≡ true → (turned (idOf s j) ≡ true) × (gone (idOf s j) ≡ false) × ((named || freed (idOf s j)) ≡ true)
+  abbrev freedOr : Bool
+  freedOr = (named && moved (idOf s j)) || freed (idOf s j)
+
+  -- a file that stays handed was turned, not gone, and freed, or moved and named
+  on-of : on ≡ true → (turned (idOf s j) ≡ true) × (gone (idOf s j) ≡ false) × (freedOr ≡ true)
   unfolding handedOn
   on-of e =
       let id = idOf s j in
@@ -68,17 +75,19 @@ module _ (t : Table) (s : Session) (m : Medium) (k : Kept t (s .ids) (s .w)) (j 
         and-0 (turned id) (not (gone id)) e1,
         not-no (gone id) (and-1 (turned id) (not (gone id)) e1),
         or-by (freed id) (moved id && named) (and-1 (turned id && not (gone id)) (freed id || (moved id && named)) e)
-            (λ q. or-r named (freed id) q) (λ q. or-l named (freed id) (and-1 (moved id) named q)),
+            (λ q. or-r (named && moved id) (freed id) q) (λ q. or-l (named && moved id) (freed id) (and-of named (moved id) (and-1 (moved id) named q) (and-0 (moved id) named q))),
       )
 
   -- a row is unmarked by it, or was so, and is handed
   row-by : {R : Type 0} (ids : List ℕ) → ids ≡ releasedIds (lent t s m) (s .w .st)
       → (unmarked (getD ids j 0) ≡ true → R)
-      → (turned (getD ids j 0) ≡ turned (idOf s j) → freed (getD ids j 0) ≡ true → gone (getD ids j 0) ≡ gone (idOf s j) → (named || freed (idOf s j)) ≡ true → R) → R
+      → (turned (getD ids j 0) ≡ turned (idOf s j) → freed (getD ids j 0) ≡ true → gone (getD ids j 0) ≡ gone (idOf s j) → moved (getD ids j 0) ≡ false
+      → freedOr ≡ true → R) → R
   row-by {R} ids e bare stays =
       pick-by (λ (x : ℕ). getD ids j 0 ≡ x → R) on (handedId (idOf s j)) (cleared (idOf s j))
       (λ q at. let o = on-of q in
-      stays (ap turned at ∙ handed-turned (idOf s j) ∙ sym (o .0)) (ap freed at ∙ handed-freed (idOf s j)) (ap gone at ∙ handed-gone (idOf s j) ∙ sym (o .1)) (o .2))
+      stays (ap turned at ∙ handed-turned (idOf s j) ∙ sym (o .0)) (ap freed at ∙ handed-freed (idOf s j)) (ap gone at ∙ handed-gone (idOf s j) ∙ sym (o .1))
+      (ap moved at ∙ handed-moved (idOf s j)) (o .2))
       (λ q at. bare (ap unmarked at ∙ cleared-unmarked (idOf s j)))
       (rw e row-at)
 
@@ -93,8 +102,15 @@ module _ (t : Table) (s : Session) (m : Medium) (k : Kept t (s .ids) (s .w)) (j 
         free = λ q p. absurd (true≢false (sym z ∙ q));
         keep = λ q p. absurd (true≢false (sym z ∙ q));
         left = λ q. absurd (true≢false (sym z ∙ q));
+        move = λ q p. absurd (true≢false (sym z ∙ q));
       })
-      (λ x y z n. record { turn = λ q. rw (tu, b) x; free = λ q p. rw (ze, na, b) n; keep = λ q p. y; left = λ q. rw (re, b) z })
+      (λ x y z v n. record {
+        turn = λ q. rw (tu, b) x;
+        free = λ q p. rw (ze, na, b) n;
+        keep = λ q p. y;
+        left = λ q. rw (re, b) z;
+        move = λ q p. absurd (true≢false (sym p ∙ v));
+      })
 
 -- a release keeps what every call keeps
 module _ (t : Table) (s : Session) (m : Medium) (k : Kept t (s .ids) (s .w)) where

@@ -18,10 +18,11 @@ pub record Session : Type 0 where
   pub w : W
   pub ids : List ℕ
 
--- The refusal number, 0 where there is none; whether a release ran to its end in this call; what is left.
+-- The refusal number, 0 where there is none; whether a release ran to its end in this call, or was put off; what is left.
 pub record Outcome : Type 0 where
   pub number : ℕ
   pub released : Bool
+  pub putOff : Bool
   pub after : Session
 
 -- "The clock, the flags, the medium and the shown and written sectors are arbitrary"; the medium may be another at each call.
@@ -56,19 +57,19 @@ lent t s m = lending (m .fat) (m .area) (s .ids) (t .starts) (t .sizes)
 
 -- what is left of each kind of answer
 abbrev pub ofWritten : Written → Outcome
-ofWritten r = record { number = r .number; released = false; after = record { w = r .w; ids = r .ids } }
+ofWritten r = record { number = r .number; released = false; putOff = false; after = record { w = r .w; ids = r .ids } }
 
 abbrev pub ofEnded : Ended → Outcome
-ofEnded r = record { number = r .number; released = eqb (r .ended) 1; after = record { w = r .w; ids = r .ids } }
+ofEnded r = record { number = r .number; released = eqb (r .ended) 1; putOff = eqb (r .ended) 2; after = record { w = r .w; ids = r .ids } }
 
 abbrev pub ofReported : Session → Reported → Outcome
-ofReported s r = record { number = r .number; released = false; after = record { w = s .w; ids = r .ids } }
+ofReported s r = record { number = r .number; released = false; putOff = false; after = record { w = s .w; ids = r .ids } }
 
 abbrev pub ofStarted : Session → Started → Outcome
-ofStarted s r = record { number = r .number; released = false; after = record { w = r .w; ids = s .ids } }
+ofStarted s r = record { number = r .number; released = false; putOff = false; after = record { w = r .w; ids = s .ids } }
 
 abbrev pub ofState : Session → W → Outcome
-ofState s w = record { number = 0; released = false; after = record { w = w; ids = s .ids } }
+ofState s w = record { number = 0; released = false; putOff = false; after = record { w = w; ids = s .ids } }
 
 unfoldable pub step : Table → Call → Session → Outcome
 step t (write x busy m) s = ofWritten (written (sectorOf t s x busy m) (s .w))

@@ -1,7 +1,7 @@
 -- Demand 3: for every table that a start takes, every list of calls and every row.
 use Prim.Native.Nat.{ℕ, _-_, _%_, _<_}
 use mathlib.Core.Bool.{Bool, true, false, _&&_, _||_, So, false≢true}
-use mathlib.Core.List.{List}
+use mathlib.Core.List.{List, [], _∷_}
 use mathlib.Core.Path.{_≡_, refl, sym, _∙_, ap}
 use native.Mathlib.Omega.{arith}
 use lib.Dec.{leb, ltb, eqb}
@@ -9,28 +9,28 @@ use lib.ListN.{length, getD, set, length-set}
 use lib.Seq.{getD-set-same, getD-set-other}
 use borrow.Author.Tests.{ltb-true, eqb-true, eqb-false}
 use Rattle.loops.specs.Loops.{pick}
-use Rattle.loops.specs.Choices.{either, pick-by, pick-has, and-0, and-no}
+use Rattle.loops.specs.Choices.{either, pick-by, pick-has, and-0, and-no, or-r}
 use Rattle.bits.specs.Bit.{setBit}
-use Rattle.vdisk.specs.Ids.{turned, freed, gone, handed}
+use Rattle.vdisk.specs.Ids.{turned, freed, gone, moved, handed}
 use Rattle.vdisk.specs.IdLaws.{set-low}
 use Rattle.file_table.specs.Table.{Table, maxFiles, accepts}
 use Rattle.file_table.specs.Accepted.{accepted, row-unmarked}
 use Rattle.state.specs.Setters.{withRw, withWantRw}
-use Rattle.marks.specs.Seen.{zeroesEntries}
-use Rattle.marks.specs.DoesLaws.{same-bit, lower-bit}
+use Rattle.marks.specs.Seen.{turnsSlot, zeroesEntries, stagesName}
+use Rattle.marks.specs.DoesLaws.{same-bit, lower-bit, upper-bit}
 use Rattle.marks.specs.Kept.{Kept}
 use Rattle.marks.specs.KeptLaws.{kept-as, kept-start}
-use Rattle.marks.specs.WriteMarks.{OnTable, write-marks, write-kept}
+use Rattle.marks.specs.WriteMarks.{movesFile, OnTable, write-marks, write-kept}
 use Rattle.write.specs.Write.{write as written}
 use Rattle.release.specs.Release.{Ended}
 use Rattle.sessions.specs.Sessions.{Reported, modeReset, setReadOnly as readOnlySet, reportGone, start}
 use Rattle.demand3.specs.Step.{Session, Outcome, Medium, Sector, Call, write, poll, release, releaseAll, busReset, resetMode, setReadOnly, report, refusedStart, sectorOf, lent, ofEnded, ofReported, step, idOf}
-use Rattle.demand3.specs.History.{seen, ofStaged, event, run, begun, since, Clean, Demand3}
-use Rattle.demand3.specs.Induct.{Effect, told-run, told-none, told-demand}
+use Rattle.demand3.specs.History.{seen, namedNow, ofStaged, event, run, next, begun, sinceBy, lately, Clean, History, Each, none, more, Demand3}
+use Rattle.demand3.specs.Induct.{Effect, Told, told-run, told-none, told-demand}
 use Rattle.demand3.specs.Ends.{EndsAs, releaseAll-ends, releaseCall-ends, busReset-ends, poll-ends}
 use Rattle.demand3.specs.Releases.{release-effect, release-kept}
 
-abbrev Good : Table → Session → Type 0
+abbrev pub Good : Table → Session → Type 0
 Good t s = Kept t (s .ids) (s .w)
 
 or-mid : (a b c : Bool) → (a || c) ≡ true → (a || b || c) ≡ true
@@ -46,9 +46,11 @@ still t j c s o e tu ze re =
     let i : idOf (o .after) j ≡ idOf s j = rw e in
     record {
       turn = λ u. ap turned i ∙ sym (rw (and-no taken (seen t j s c .turned) tu));
-      free = λ u p. or-mid (taken && seen t j s c .zeroed) (o .released && seen t j s c .named) (freed (idOf s j)) (rw (and-no taken (seen t j s c .zeroed) ze) (sym (ap freed i) ∙ p));
+      free = λ u p. or-mid (taken && seen t j s c .zeroed) (o .released && seen t j s c .named && moved (idOf s j)) (freed (idOf s j))
+          (rw (and-no taken (seen t j s c .zeroed) ze) (sym (ap freed i) ∙ p));
       keep = λ u p. ap freed i ∙ (rw (and-no taken (seen t j s c .zeroed) ze) at p);
       left = λ u. ap gone i ∙ sym (rw (and-no taken (seen t j s c .gone) re));
+      move = λ u p. or-r ((taken && seen t j s c .turned && seen t j s c .named) || (taken && seen t j s c .staged && turned (idOf s j))) (moved (idOf s j)) (sym (ap moved i) ∙ p);
     }
 
 -- a report of row i
@@ -93,9 +95,10 @@ module _ (t : Table) (s : Session) (k : Good t s) (i : ℕ) where
         free = λ u p. sym (ap freed at ∙ lower-bit (eqb i j) (idOf s j) 14 13 (omega arith)) ∙ p;
         keep = λ u p. ap freed at ∙ lower-bit (eqb i j) (idOf s j) 14 13 (omega arith) ∙ p;
         left = λ u. ap gone at ∙ same-bit (eqb i j) (idOf s j) 14;
+        move = λ u p. sym (ap moved at ∙ upper-bit (eqb i j) (idOf s j) 14 15 (omega arith)) ∙ p;
       })
-      (record { turn = λ u. refl; free = λ u p. p; keep = λ u p. p; left = λ u. refl })
-      (record { turn = λ u. refl; free = λ u p. p; keep = λ u p. p; left = λ u. refl })
+      (record { turn = λ u. refl; free = λ u p. p; keep = λ u p. p; left = λ u. refl; move = λ u p. p })
+      (record { turn = λ u. refl; free = λ u p. p; keep = λ u p. p; left = λ u. refl; move = λ u p. p })
 
 -- a call that may have ended the session
 module _ (t : Table) (s : Session) (k : Good t s) (m : Medium) (e : Ended) (a : EndsAs (lent t s m) (s .w) e) where
@@ -117,14 +120,26 @@ module _ (t : Table) (s : Session) (k : Good t s) (m : Medium) (e : Ended) (a : 
   ended-clean : So (eqb (e .ended) 1) → Clean (e .w)
   ended-clean q = a .ran q .clean
 
+and-swap : (a b : Bool) → (a && b) ≡ (b && a)
+and-swap true true = refl
+and-swap true false = refl
+and-swap false true = refl
+and-swap false false = refl
+
+-- a write that was taken moves by a name at the turn, or by one that it stages after a turn
+moves-as : (n a b c d m : Bool) → ((n && ((a && b) || (c && d))) || m) ≡ ((n && a && b) || (n && d && c) || m)
+moves-as true a b c d m = rw (and-swap c d)
+moves-as false a b c d m = refl
+
 -- a write
 module _ (t : Table) (fine : accepts t ≡ true) (s : Session) (k : Good t s) (x : Sector) (busy : Bool) (m : Medium) where
   on : OnTable t (sectorOf t s x busy m)
   on = record { slots = refl; starts = refl; sizes = refl }
 
   write-effect : (j : ℕ) → j < length (t .ids) → Effect t j (event t (write x busy m) s)
-  unfolding event step
+  unfolding event step movesFile
   write-effect j l =
+      let y = sectorOf t s x busy m in
       let d = write-marks t fine (sectorOf t s x busy m) on (s .w) k j l in
       let n = written (sectorOf t s x busy m) (s .w) .number in
       record {
@@ -132,6 +147,7 @@ module _ (t : Table) (fine : accepts t ≡ true) (s : Session) (k : Good t s) (x
         free = λ u p. or-mid (eqb n 0 && zeroesEntries t j (sectorOf t s x busy m)) false (freed (idOf s j)) (sym (d .free) ∙ p);
         keep = λ u p. d .free ∙ p;
         left = λ u. d .left ∙ sym (rw (and-no (eqb n 0) false refl));
+        move = λ u p. sym (d .move ∙ moves-as (eqb n 0) (turnsSlot t j y) (namedNow t j (s .w .st) m) (turned (idOf s j)) (stagesName t j y (s .w)) (moved (idOf s j))) ∙ p;
       }
 
 module _ (t : Table) (fine : accepts t ≡ true) where
@@ -140,7 +156,7 @@ module _ (t : Table) (fine : accepts t ≡ true) where
   unfolding start
   start-kept s k other e = rw e k
 
-  good : (c : Call) (s : Session) → Good t s → Good t (event t c s .out .after)
+  pub good : (c : Call) (s : Session) → Good t s → Good t (event t c s .out .after)
   unfolding event step modeReset readOnlySet withRw withWantRw
   good (write x busy m) s k = write-kept t fine (sectorOf t s x busy m) (on t fine s k x busy m) (s .w) k
   good (poll clock mounted m) s k = ended-kept t s k m _ (poll-ends (lent t s m) (s .w) clock mounted)
@@ -152,7 +168,7 @@ module _ (t : Table) (fine : accepts t ≡ true) where
   good (report i) s k = report-kept t s k i
   good (refusedStart other e) s k = start-kept s k other e
 
-  effect : (c : Call) (s : Session) → Good t s → (j : ℕ) → j < length (t .ids) → Effect t j (event t c s)
+  pub effect : (c : Call) (s : Session) → Good t s → (j : ℕ) → j < length (t .ids) → Effect t j (event t c s)
   unfolding event step
   effect (write x busy m) s k j l = write-effect t fine s k x busy m j l
   effect (poll clock mounted m) s k j l = ended-effect t s k m _ (poll-ends (lent t s m) (s .w) clock mounted) (poll clock mounted m) j l refl
@@ -164,11 +180,11 @@ module _ (t : Table) (fine : accepts t ≡ true) where
   effect (report i) s k j l = report-effect t s k i j
   effect (refusedStart other e) s k j l = still t j (refusedStart other e) s _ refl refl refl refl
 
-  pub demand-3 : (cs : List Call) (j : ℕ) → j < length (t .ids) → Demand3 t j (run t (begun t) cs)
-  unfolding since
-  demand-3 cs j l =
-      told-demand t j (run t (begun t) cs)
-      (told-run t (Good t) good effect j l cs (begun t) (kept-start t) (told-none t j (getD (t .ids) j 0) (row-unmarked t (accepted t fine) j l)))
+  -- what every list of calls tells of a row
+  pub told : (cs : List Call) (j : ℕ) → j < length (t .ids) → Told t j (idOf (run t (begun t) cs .session) j) (lately j (run t (begun t) cs))
+  unfolding sinceBy
+  told cs j l =
+      told-run t (Good t) good effect j l cs (begun t) (kept-start t) (told-none t j (getD (t .ids) j 0) (row-unmarked t (accepted t fine) j l))
 
 -- a completed release leaves nothing of the session, whichever call led to it
 pub demand-3-clean : (t : Table) (c : Call) (s : Session) → So (step t c s .released) → Clean (step t c s .after .w)
@@ -182,3 +198,17 @@ demand-3-clean t resetMode s e = absurd (false≢true e)
 demand-3-clean t (setReadOnly on) s e = absurd (false≢true e)
 demand-3-clean t (report i) s e = absurd (false≢true e)
 demand-3-clean t (refusedStart other q) s e = absurd (false≢true e)
+
+clean-run : (t : Table) (cs : List Call) (h : History) → Each (λ e. So (e .out .released) → Clean (e .out .after .w)) (h .trace)
+    → Each (λ e. So (e .out .released) → Clean (e .out .after .w)) (run t h cs .trace)
+unfolding run event
+clean-run t [] h k = k
+clean-run t (c ∷ cs) h k = clean-run t cs (next t h c) (more (demand-3-clean t c (h .session)) k)
+
+pub demand-3 : (t : Table) → accepts t ≡ true → (cs : List Call) → Demand3 t (run t (begun t) cs)
+demand-3 t fine cs =
+    record {
+      safe = λ j l. told-demand t j (run t (begun t) cs) (told t fine cs j l) .safe;
+      complete = λ j l. told-demand t j (run t (begun t) cs) (told t fine cs j l) .complete;
+      clean = clean-run t cs (begun t) none;
+    }

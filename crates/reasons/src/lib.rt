@@ -11,15 +11,18 @@ ghost use mathlib.Core.List.{[], _∷_};
 ghost use Prim.Native.Nat.{_<_};
 ghost use lib.ListN.{length};
 ghost use Rattle.vdisk.specs.Drive.{dirKindOf};
+ghost use mathlib.Core.Bool.{true, false};
 ghost use Rattle.marks.specs.Seen.{turnsIn, allZero, zeroesIn};
-ghost use Rattle.reasons.specs.Reasons.{fileAlone, noReason, afterWrite, afterEnd, afterGone};
+ghost use Rattle.reasons.specs.Reasons.{fileAlone, noReason, withSeen, movedThen, afterWrite, afterEnd, afterGone};
 
 // What the calls held of one file since the start, or since the completed release that last left it unmarked: a turn of its slot, its
-// entries zeroed, a staged sector that named it at a release, a report that it is gone.
+// entries zeroed, a staged sector that named it at the turn or was staged after it, one that named it so at a release after that, a report
+// that it is gone.
 #[repr(C)]
 pub struct Reason {
     pub turned: bool,
     pub zeroed: bool,
+    pub moved: bool,
     pub named: bool,
     pub gone: bool,
 }
@@ -31,6 +34,7 @@ pub fn no_reason() -> Reason
     Reason {
         turned: false,
         zeroed: false,
+        moved: false,
         named: false,
         gone: false,
     }
@@ -86,7 +90,39 @@ fn zeroes(start: u16, size: u32, s: u32, shown: &[u8], written: &[u8]) -> bool
     !all_zero(start, size, s, shown)
 }
 
-// After a write that answered `number`. Of the id only the directory is read, so its marks don't matter.
+// Has the file moved: before, or as data that names it is staged after its turn.
+fn moved_by(moved: bool, turned: bool, start: u16, size: u32, written: &[u8], staged: bool) -> bool
+    requires { ⌜ length (now written) ≡ 512 ⌝ }
+    ensures { λ b. ⌜ b ≡ movedThen start size (now (written .entry)) staged turned moved ⌝ }
+{
+    if moved {
+        return true;
+    }
+    if !turned {
+        return false;
+    }
+    if !staged {
+        return false;
+    }
+    if sector::is_zero(written) {
+        return false;
+    }
+    slots::refers::refers(written, start, size)
+}
+
+// A turn, which moves the file where a staged sector names it already.
+fn at_turn(mut r: Reason, named: bool) -> Reason
+    ensures { λ a. ⌜ a ≡ withSeen r true false named ⌝ }
+{
+    r.turned = true;
+    if named {
+        r.moved = true;
+    }
+    r
+}
+
+// After a write that answered `number`. Of the id only the directory is read, so its marks don't matter. `named` says whether a sector staged
+// before the write named the file, as the medium stood then; `staged` whether the write staged its sector.
 pub fn after_write(
     mut r: Reason,
     id: u16,
@@ -97,8 +133,10 @@ pub fn after_write(
     lba: u32,
     shown: &[u8],
     written: &[u8],
+    named: bool,
+    staged: bool,
 ) -> Reason
-    ensures { λ a. ⌜ a ≡ afterWrite r id slot start size number lba (now (shown .entry)) (now (written .entry)) ⌝ }
+    ensures { λ a. ⌜ a ≡ afterWrite r id slot start size number lba (now (shown .entry)) (now (written .entry)) named staged ⌝ }
 {
     if number != 0 {
         return r;
@@ -106,6 +144,7 @@ pub fn after_write(
     if !write::lent::whole_sectors(shown, written) {
         return r;
     }
+    r.moved = moved_by(r.moved, r.turned, start, size, written, staged);
     match place_of(lba) {
         Place::Boot => r,
         Place::Fat(s) => {
@@ -117,7 +156,7 @@ pub fn after_write(
         Place::Root(s) => r,
         Place::Data(c, s) => {
             if turns(id, slot, c, s, shown, written) {
-                r.turned = true;
+                return at_turn(r, named);
             }
             r
         }
@@ -136,7 +175,10 @@ pub fn after_end(mut r: Reason, ended: u8, id: u16, named: bool) -> Reason
     if is_unmarked(id) {
         return no_reason();
     }
-    if named {
+    if !named {
+        return r;
+    }
+    if r.moved {
         r.named = true;
     }
     r

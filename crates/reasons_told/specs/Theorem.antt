@@ -18,15 +18,17 @@ use Rattle.file_table.specs.Table.{Table, inFile}
 use Rattle.state.specs.declared.w.W.{W}
 use Rattle.judge.specs.Classify.{SectorWrite}
 use Rattle.write.specs.Write.{wholeSectors, write as written}
-use Rattle.marks.specs.Seen.{slotIn, startIn, sizeIn, turnedIn as turnedAt, turnsIn, turnsAt, turnsSlot, zeroIn, allZero, zeroesIn, zeroesAt, zeroesEntries}
+use Rattle.marks.specs.Seen.{slotIn, startIn, sizeIn, turnedIn as turnedAt, turnsIn, turnsAt, turnsSlot, zeroIn, allZero, zeroesIn, zeroesAt, zeroesEntries, stagesAt, stagesName, dataNames}
 use Rattle.release.specs.Release.{Ended, releaseAllCall, releaseCall}
 use Rattle.sessions.specs.Poll.{pollCall}
 use Rattle.sessions.specs.Sessions.{busResetCall, reportGone}
 use Rattle.demand3.specs.Step.{Session, Outcome, Medium, Sector, Call, write, poll, release, releaseAll, busReset, resetMode, setReadOnly, report, refusedStart, sectorOf, lent, ofEnded, step}
-use Rattle.demand3.specs.History.{Event, event, unmarks, since, anyOf, seen, nothing, ofStaged, turnedBy, zeroedBy, namedBy, goneBy, turnedIn, zeroedIn, namedIn, goneIn}
+use Rattle.demand3.specs.History.{Event, event, unmarks, sinceBy, since, anyOf, seen, seenIn, namedNow, nothing, ofStaged}
+use Rattle.demand3.specs.History.{turnedBy, zeroedBy, stagedBy, namedBy, goneBy, turnedIn, zeroedIn, movedIn, namedIn, goneIn}
 use Rattle.reasons.specs.Reasons.{noReason, fileAlone, sectorAlone, afterWrite, afterEnd, afterGone}
 use Rattle.reasons.specs.declared.Reason.{Reason}
-use Rattle.reasons_told.specs.Told.{reasonOf, whenEnded, afterCall, Told}
+use Rattle.reasons_told.specs.Told.{reasonOf, whenEnded, stages, afterCall, Told}
+use Rattle.reasons_told.specs.VersionLaws.{version-stages}
 
 -- the file alone, with any marks, says what its row of the table says
 module _ (t : Table) (j id : ℕ) (same : cleared id ≡ cleared (getD (t .ids) j 0)) where
@@ -81,17 +83,28 @@ module _ (x : SectorWrite) (w : W) where
       both true false f = sym (f refl)
       both false b f = refl
 
+-- a write that was taken moves by a name at the turn, or by one that it stages after a turn
+moves-as : (k tu na st v d a b : Bool) → (k ≡ true → v ≡ st) → ((k && tu && na) || (k && (st && d) && a) || b) ≡ ((k && ((tu && na) || (v && d && a))) || b)
+moves-as true tu na st v d a b e = rw (e refl)
+moves-as false tu na st v d a b e = refl
+
 -- the calls so far, of which e is the latest
 module _ (t : Table) (j : ℕ) where
   abbrev reasonIn : List Event → Reason
-  reasonIn es = record { turned = turnedIn t j es; zeroed = zeroedIn t j es; named = namedIn t j es; gone = goneIn t j es }
+  reasonIn es = record { turned = turnedIn t j es; zeroed = zeroedIn t j es; moved = movedIn t j es; named = namedIn t j es; gone = goneIn t j es }
 
   abbrev added : Event → Reason → Reason
   added e r =
-      record { turned = turnedBy t j e || r .turned; zeroed = zeroedBy t j e || r .zeroed; named = namedBy t j e || r .named; gone = goneBy t j e || r .gone }
+      record {
+        turned = turnedBy t j e || r .turned;
+        zeroed = zeroedBy t j e || r .zeroed;
+        moved = (turnedBy t j e && seenIn t j e .named) || (stagedBy t j e && r .turned) || r .moved;
+        named = (namedBy t j e && r .moved) || r .named;
+        gone = goneBy t j e || r .gone;
+      }
 
   latest : (e : Event) (es : List Event) → reasonIn (since j (e ∷ es)) ≡ pick (unmarks j e) noReason (added e (reasonIn (since j es)))
-  unfolding since anyOf
+  unfolding sinceBy anyOf movedIn namedIn
   latest e es = by (unmarks j e)
     where
       by : (b : Bool) → reasonIn (pick b [] (e ∷ since j es)) ≡ pick b noReason (added e (reasonIn (since j es)))
@@ -110,10 +123,13 @@ module _ (t : Table) (j : ℕ) where
 
   wrote : (id : ℕ) → cleared id ≡ cleared (getD (t .ids) j 0) → (x : Sector) (busy : Bool) (m : Medium) (s : Session) (r : Reason)
       → pick (unmarks j (event t (write x busy m) s)) noReason (added (event t (write x busy m) s) r) ≡ afterCall t j id s (write x busy m) r
-  unfolding event step afterCall afterWrite
+  unfolding event step afterCall afterWrite stagesName dataNames
   wrote id e x busy m s r =
       let y = sectorOf t s x busy m in
-      rw (taken-whole y (s .w), turns-slot t j id e y, zeroes-entries t j id e y, and-no (eqb (written y (s .w) .number) 0) false refl)
+      let n = eqb (written y (s .w) .number) 0 in
+      let moves = moves-as n (turnsSlot t j y) (namedNow t j (s .w .st) m) (stagesAt y (s .w) (placeOf (x .lba))) (stages s (step t (write x busy m) s)) (dataNames t j (x .written))
+      (r .turned) (r .moved) (version-stages y (s .w)) in
+      rw (taken-whole y (s .w), turns-slot t j id e y, zeroes-entries t j id e y, and-no n false refl, moves)
 
   module _ (id : ℕ) (e : cleared id ≡ cleared (getD (t .ids) j 0)) where
     by-call : (c : Call) (s : Session) (r : Reason) → pick (unmarks j (event t c s)) noReason (added (event t c s) r) ≡ afterCall t j id s c r
@@ -129,5 +145,5 @@ module _ (t : Table) (j : ℕ) where
     by-call (refusedStart other q) s r = still (refusedStart other q) s (step t (refusedStart other q) s) r refl refl
 
   pub told : Told t j
-  unfolding since anyOf
+  unfolding sinceBy anyOf movedIn namedIn
   told = record { start = refl; call = λ id e h c. latest (event t c (h .session)) (h .trace) ∙ by-call id e c (h .session) (reasonOf t j h) }

@@ -25,7 +25,8 @@ pub extern "C" fn vwrite_named(
     named(*w, fat, area, start, size)
 }
 
-// What the calls held of a file, after a write that answered `number`.
+// What the calls held of a file, after a write that answered `number`: whether a staged sector named the file before it, and whether it staged
+// its sector.
 #[no_mangle]
 pub extern "C" fn vwrite_after_write(
     r: Reason,
@@ -37,10 +38,24 @@ pub extern "C" fn vwrite_after_write(
     lba: u32,
     shown: &[u8],
     written: &[u8],
+    named: bool,
+    staged: bool,
 ) -> Reason
-    ensures { λ a. ⌜ a ≡ afterWrite r id slot start size number lba (now (shown .entry)) (now (written .entry)) ⌝ }
+    ensures { λ a. ⌜ a ≡ afterWrite r id slot start size number lba (now (shown .entry)) (now (written .entry)) named staged ⌝ }
 {
-    after_write(r, id, slot, start, size, number, lba, shown, written)
+    after_write(
+        r,
+        id,
+        slot,
+        start,
+        size,
+        number,
+        lba,
+        shown,
+        written,
+        named,
+        staged,
+    )
 }
 
 // ... after a call that may end the session: what it answered as ended, the file's id then, and whether a staged sector named it before.

@@ -81,6 +81,7 @@ pub struct Named {
 pub struct Reason {
     pub turned: bool,
     pub zeroed: bool,
+    pub moved: bool,
     pub named: bool,
     pub gone: bool,
 }
@@ -181,6 +182,8 @@ extern "C" {
         nshown: usize,
         written: *const u8,
         nwritten: usize,
+        named: bool,
+        staged: bool,
     ) -> Reason;
     pub fn vwrite_after_end(r: Reason, ended: u8, id: u16, named: bool) -> Reason;
     pub fn vwrite_after_gone(r: Reason, number: u8, row: usize, j: usize) -> Reason;

@@ -30,10 +30,15 @@ impl Replay {
     fn line(&mut self, line: usize, call: Call, out: &mut impl Write) -> Result<(), String> {
         let met = self.session.w;
         let before = (self.form == Form::Words).then(|| words::Before { w: self.session.w, files: self.session.files.clone() });
+        // the write changes the medium in place, so what was named is asked first
+        let named = self.reasons.names_at(&self.session, &call);
         let answer = self.session.call(call.clone())?;
         match (&answer, &call) {
             (Answer::Number(0), Call::Start { files, .. }) => self.reasons.started(files.len(), line),
-            (Answer::Number(n), Call::Write { .. }) => self.reasons.written(&self.session.files, &call, *n, line),
+            (Answer::Number(n), Call::Write { .. }) => {
+                let staged = met.ver != self.session.w.ver;
+                self.reasons.written(&self.session.files, &call, *n, &named, staged, line)
+            }
             (Answer::Number(n), Call::Gone(row)) => self.reasons.reported(*n, *row, line),
             (Answer::Ended(e), _) => self.reasons.ended(&self.session, &met, e.ended, line),
             _ => {}

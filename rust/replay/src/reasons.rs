@@ -1,7 +1,7 @@
 //! Why a file is handed, or what is missing: demand 3's own conditions, kept up from call to call by the proved library, with the lines that met them.
 use crate::session::Session;
 use bindings::calls::*;
-use bindings::{File, State};
+use bindings::{File, State, DATA_START, SPC};
 use line_form::Call;
 
 /// Of one file: what the calls held of it since the line `since`, and the lines that first did.
@@ -11,13 +11,14 @@ pub struct Why {
     since: usize,
     turned: usize,
     zeroed: usize,
+    moved: usize,
     named: usize,
     gone: usize,
 }
 
 impl Why {
     fn new(since: usize) -> Why {
-        Why { reason: Reason::default(), since, turned: 0, zeroed: 0, named: 0, gone: 0 }
+        Why { reason: Reason::default(), since, turned: 0, zeroed: 0, moved: 0, named: 0, gone: 0 }
     }
 
     /// The reason as the library gives it after the call of this line.
@@ -26,6 +27,7 @@ impl Why {
         let parts = [
             (was.turned, reason.turned, &mut self.turned),
             (was.zeroed, reason.zeroed, &mut self.zeroed),
+            (was.moved, reason.moved, &mut self.moved),
             (was.named, reason.named, &mut self.named),
             (was.gone, reason.gone, &mut self.gone),
         ];
@@ -40,6 +42,12 @@ impl Why {
     fn forgets(&mut self, line: usize) {
         *self = Why::new(line);
     }
+}
+
+/// The sector of a directory that stands at a place.
+fn directory_sector(lba: u32) -> Option<u32> {
+    let at = lba.checked_sub(DATA_START)?;
+    unsafe { vwrite_dir_kind(at / SPC + 2).found }.then_some(at % SPC)
 }
 
 /// Of every row of the table.
@@ -59,11 +67,23 @@ impl Reasons {
         self.start = line;
     }
 
-    pub fn written(&mut self, files: &[File], call: &Call, number: u8, line: usize) {
+    /// The rows that a staged sector names before a call, of those whose slot stands in the written directory sector: no others can be turned.
+    pub fn names_at(&self, session: &Session, call: &Call) -> Vec<bool> {
+        let Call::Write { lba, .. } = call else { return vec![] };
+        match directory_sector(*lba) {
+            Some(s) => session.files.iter().map(|f| f.slot as u32 / 16 == s && session.names(&session.w, f)).collect(),
+            None => vec![],
+        }
+    }
+
+    /// A write that answered `number`; `named` are the rows named before it, and `staged` says whether it staged its sector.
+    pub fn written(&mut self, files: &[File], call: &Call, number: u8, named: &[bool], staged: bool, line: usize) {
         let Call::Write { lba, shown, written, .. } = call else { return };
-        for (why, f) in self.rows.iter_mut().zip(files) {
+        for (j, (why, f)) in self.rows.iter_mut().zip(files).enumerate() {
+            let named = named.get(j).copied().unwrap_or(false);
+            let (shown, written) = (shown.as_ptr(), written.as_ptr());
             let reason =
-                unsafe { vwrite_after_write(why.reason, f.id, f.slot, f.vstart, f.vsize, number, *lba, shown.as_ptr(), 512, written.as_ptr(), 512) };
+                unsafe { vwrite_after_write(why.reason, f.id, f.slot, f.vstart, f.vsize, number, *lba, shown, 512, written, 512, named, staged) };
             why.becomes(reason, line);
         }
     }
@@ -101,6 +121,7 @@ impl Reasons {
         let parts = [
             (r.turned, "turned", why.turned),
             (r.zeroed, "its entries zeroed", why.zeroed),
+            (r.moved, "named by a staged sector", why.moved),
             (r.named, "named by a staged sector at the release", why.named),
             (r.gone, "reported gone", why.gone),
         ];
