@@ -171,9 +171,6 @@ typedef struct {
     size_t row;
 } vwrite_handed;
 
-/* A fresh state, with the first session cluster, for tests. Before the first call *w holds zeros. */
-void vwrite_initial(vwrite_state *w, uint32_t first);
-
 /* The sector written at lba is judged; shown is the one that the drive shows there. busy: the medium's bus is taken. The medium is fat, 3 to
  * 65,526 entries, only read, and area, 4,096 bytes for each entry after the second. Answers the refusal number: 1 to 10, 12 to 19. */
 uint8_t vwrite_write(vwrite_state *w, vwrite_file *files, size_t nfiles, uint32_t lba, const uint8_t *shown, size_t nshown, const uint8_t *written,

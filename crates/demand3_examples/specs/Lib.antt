@@ -1,2 +1,5 @@
 -- One file in lists of calls, computed.
+pub mod Setting
 pub mod Example
+pub mod Named
+pub mod Ends

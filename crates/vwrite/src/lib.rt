@@ -13,7 +13,6 @@ use state::queries::boot_state;
 use state::queries::fat1;
 use state::queries::frozen;
 use state::w::W;
-use state::w::initial_state;
 use state_calls::DirAnswer;
 use state_calls::OwnAnswer;
 use state_calls::PairAnswer;
@@ -32,7 +31,6 @@ ghost use mathlib.Core.Path.{_≡_};
 ghost use Rattle.vdisk.specs.Drive.{clustersOf, dirKindOf};
 ghost use Rattle.records.specs.Records.{rootRec};
 ghost use Rattle.root_slots.specs.RootSlots.{strictOf};
-ghost use Rattle.state.specs.State.{initial};
 ghost use Rattle.state.specs.Pairs.{pairOf};
 ghost use Rattle.state.specs.Queries.{bootOf, fat1Of, frozenOf};
 ghost use Rattle.medium.specs.Reads.{stagedAnswer, stagedBytes};
@@ -188,13 +186,4 @@ pub extern "C" fn vwrite_nclus(size: u32) -> u32
     ensures { λ r. ⌜ r ≡ clustersOf size ⌝ }
 {
     nclus(size)
-}
-
-// A fresh state, as it first stands, with the first session cluster.
-#[no_mangle]
-pub extern "C" fn vwrite_initial(w: &mut W, first: u32)
-    ensures { λ _. ⌜ now (w .exit) ≡ initial first ⌝ }
-{
-    let s = initial_state(first);
-    *w = s;
 }

@@ -94,7 +94,6 @@ pub struct Body {
 }
 
 extern "C" {
-    pub fn vwrite_initial(w: *mut State, first: u32);
     #[rustfmt::skip]
     pub fn vwrite_write(
         w: *mut State,

@@ -20,10 +20,11 @@ pub enum Answer {
 }
 
 impl Session {
+    /// Before a recording has a table: a start with an empty one, of a state of zeros.
     pub fn new() -> Session {
-        let mut w = State::new(7);
-        unsafe { vwrite_initial(&mut w, 7) };
-        Session { w, files: vec![], fat: vec![], area: vec![], lent: (0, 0) }
+        let mut fresh = Session { w: State::new(0), files: vec![], fat: vec![], area: vec![], lent: (0, 0) };
+        assert_eq!(fresh.start(7, vec![]), 0, "a start takes an empty table");
+        fresh
     }
 
     /// The rows whose file is handed: the finder is asked of each row by itself.

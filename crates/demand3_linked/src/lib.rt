@@ -1,0 +1,1 @@
+// Demand 3 of the calls that a firmware links, one after the other. Nothing runs.
