@@ -35,9 +35,9 @@ use Rattle.staging.specs.Blocks.{heldFor}
 use Rattle.staging.specs.Staging.{Staged, slotFor, startStaging, putInto, intoBlock, withBlock, onMedium, inSlot, claimed, inFound, stage}
 use Rattle.judge.specs.Classify.{SectorWrite, Outcome, refused, unlessShown, bootPasses, boot, fatOf, fat, root, dir, dataNumber, otherData, ownerIn, stageOf, cluster, atPlace, classify}
 use Rattle.write.specs.Write.{Written, settled, unjudged, wholeSectors, tableFits, write}
-use Rattle.admits.specs.Bytes.{keptByte, onlyBytes}
+use Rattle.admits.specs.Bytes.{byteAsShown, onlyBytes}
 use Rattle.admits.specs.Admits.{isHost, asShown, bootAdmits, ownPasses, entryPasses, fatAdmits, rootByte, needsPlace, rootAdmits, dirAdmits}
-use Rattle.admits.specs.Admits.{isPlace, slotPlace, slotAs, slotBefore, parkedSame, needsBlock, takesNone, hintOf, slotAdmits, stageAdmits, clusterAdmits, placeAdmits, admits}
+use Rattle.admits.specs.Admits.{isPlace, slotPlace, slotAs, slotBefore, asParked, needsBlock, takesNone, hintOf, slotAdmits, stageAdmits, clusterAdmits, placeAdmits, admits}
 use Rattle.admits.specs.ByteLaws.{all-same, or-comm, kept-is, shown-only, shown-slot}
 use Rattle.admits.specs.ZeroLaws.{zero-pick, pass-pick, go-on, first-zero}
 use Rattle.admits.specs.RootLaws.{root-pass}
@@ -102,7 +102,7 @@ module _ (x : SectorWrite) (w : W) (c s : ℕ) where
     slot-admits : (ss : List St) → isTaken (inSlot (stageOf x c s) (withSt w ss) i y) ≡ slotAdmits x w s y
     unfolding inSlot onMedium slotAdmits
     slot-admits ss =
-        either (parkedSame x y s)
+        either (asParked x y s)
         (λ p. rw p)
         (λ p. rw p
         (either (takesNone x y s) (λ t. rw t)
@@ -154,7 +154,7 @@ module _ (x : SectorWrite) (w : W) where
   unfolding bootAdmits onlyBytes bootPasses
   boot-same =
       all-same _ _ 512 0
-      (λ n l h. or-comm (keptByte x n) (eqb n 0x25) ∙ ap (λ (b : Bool). eqb n 0x25 || b) (kept-is x n))
+      (λ n l h. or-comm (byteAsShown x n) (eqb n 0x25) ∙ ap (λ (b : Bool). eqb n 0x25 || b) (kept-is x n))
 
   boot-pass : eqb (boot x w .number) 0 ≡ bootAdmits x
   unfolding boot

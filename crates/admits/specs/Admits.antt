@@ -35,7 +35,7 @@ use Rattle.staging.specs.Blocks.{isParked, heldFor}
 use Rattle.staging.specs.Staging.{slotFor}
 use Rattle.judge.specs.Classify.{SectorWrite, fatOf}
 use Rattle.write.specs.Write.{wholeSectors, tableFits}
-use Rattle.admits.specs.Bytes.{onlyBytes, slotIn, byteIn, entryAt, keptSlot, dateByte}
+use Rattle.admits.specs.Bytes.{onlyBytes, slotOfByte, placeInSlot, writtenSlot, slotAsShown, dateByte}
 
 -- a host cluster's sector is staged; elsewhere one equal to the shown one is accepted
 abbrev pub isHost : SectorWrite → W → ℕ → Bool
@@ -80,43 +80,43 @@ isUpdateFile e =
 unfoldable pub attrBit : List ℕ → ℕ → Bool
 attrBit e weight = eqb (getD e 0x0B 0 / weight % 2) 1
 
-unfoldable pub isLongEntry : List ℕ → Bool
-isLongEntry e = eqb (getD e 0x0B 0 % 64) 15
+unfoldable pub isLongSlot : List ℕ → Bool
+isLongSlot e = eqb (getD e 0x0B 0 % 64) 15
 
 -- the start, in two bytes, and the size, in four
-unfoldable pub startIn : List ℕ → ℕ
-startIn e = getD e 0x1A 0 + 256 * getD e 0x1B 0
+unfoldable pub slotStart : List ℕ → ℕ
+slotStart e = getD e 0x1A 0 + 256 * getD e 0x1B 0
 
-unfoldable pub sizeIn : List ℕ → ℕ
-sizeIn e = getD e 0x1C 0 + 256 * getD e 0x1D 0 + 65536 * getD e 0x1E 0 + 16777216 * getD e 0x1F 0
+unfoldable pub slotSize : List ℕ → ℕ
+slotSize e = getD e 0x1C 0 + 256 * getD e 0x1D 0 + 65536 * getD e 0x1E 0 + 16777216 * getD e 0x1F 0
 
 -- "one of ten housekeeping prefixes, or DM40*.BIN that is no directory, at most 638,988 bytes": house is whether the slot's name is housekeeping
 unfoldable pub nameAdmits : List ℕ → Bool → Bool
-nameAdmits e house = house || (not (attrBit e 16) && isUpdateFile e && leb (sizeIn e) 638988)
+nameAdmits e house = house || (not (attrBit e 16) && isUpdateFile e && leb (slotSize e) 638988)
 
 -- "first byte 0 refused; 0xE5 or a long entry passes; attribute bit 3, a non-zero word at 0x14, or a start neither 0 nor host refused": host is
 -- whether the start is a host cluster
-unfoldable pub entryAdmits : List ℕ → Bool → Bool → Bool
-entryAdmits e host house =
+unfoldable pub recordAdmits : List ℕ → Bool → Bool → Bool
+recordAdmits e host house =
     not (eqb (getD e 0 0) 0)
-    && (eqb (getD e 0 0) 0xE5 || isLongEntry e
-    || (not (attrBit e 8) && eqb (getD e 0x14 0) 0 && eqb (getD e 0x15 0) 0 && (eqb (startIn e) 0 || host) && nameAdmits e house))
+    && (eqb (getD e 0 0) 0xE5 || isLongSlot e
+    || (not (attrBit e 8) && eqb (getD e 0x14 0) 0 && eqb (getD e 0x15 0) 0 && (eqb (slotStart e) 0 || host) && nameAdmits e house))
 
 -- host slot i of root sector s as written, root slot s * 16 + i
 unfoldable pub hostSlotAdmits : SectorWrite → W → ℕ → ℕ → Bool
 hostSlotAdmits x w s i =
-    entryAdmits (entryAt x i) (isHost x w (startIn (entryAt x i))) (isHousekeeping (longName (w .rec) (x .written) (s * 16) (s * 16 + i)))
+    recordAdmits (writtenSlot x i) (isHost x w (slotStart (writtenSlot x i))) (isHousekeeping (longName (w .rec) (x .written) (s * 16) (s * 16 + i)))
 
 -- "slots 0 to 6 may change in dates"; a byte of another slot may differ where that slot is admitted
 unfoldable pub rootByte : SectorWrite → W → ℕ → ℕ → Bool
-rootByte x w s n = pick (leb (s * 16 + slotIn n) 6) (dateByte (byteIn n)) (hostSlotAdmits x w s (slotIn n))
+rootByte x w s n = pick (leb (s * 16 + slotOfByte n) 6) (dateByte (placeInSlot n)) (hostSlotAdmits x w s (slotOfByte n))
 
 -- a changed host slot without a record needs a place; "then 15, of 10 places"
 unfoldable pub hasRecord : List Rec → ℕ → Bool
 hasRecord recs k = some (λ r. eqb (getD recs r noRec .slot) k) maxRecords 0
 
 unfoldable pub needsPlace : SectorWrite → W → ℕ → ℕ → Bool
-needsPlace x w s i = leb 7 (s * 16 + i) && not (keptSlot x i) && not (hasRecord (w .rec) (s * 16 + i))
+needsPlace x w s i = leb 7 (s * 16 + i) && not (slotAsShown x i) && not (hasRecord (w .rec) (s * 16 + i))
 
 unfoldable pub rootAdmits : SectorWrite → W → ℕ → Bool
 rootAdmits x w s =
@@ -133,12 +133,12 @@ unturnedAt x k slot j = shownIn (kindOf (getD (x .ids) j 0)) k && eqb (getD (x .
 -- "a turn": byte 0 of a slot becomes 0xE5, and was not, where such a file is
 unfoldable pub turnByte : SectorWrite → ℕ → ℕ → ℕ → Bool
 turnByte x k s n =
-    eqb (byteIn n) 0 && eqb (getD (x .written) n 0) 0xE5 && not (eqb (getD (x .shown) n 0) 0xE5)
-    && some (unturnedAt x k (s * 16 + slotIn n)) (length (x .ids)) 0
+    eqb (placeInSlot n) 0 && eqb (getD (x .written) n 0) 0xE5 && not (eqb (getD (x .shown) n 0) 0xE5)
+    && some (unturnedAt x k (s * 16 + slotOfByte n)) (length (x .ids)) 0
 
 -- "dates are dropped; a turn ..; anything else is 9"
 unfoldable pub dirAdmits : SectorWrite → ℕ → ℕ → Bool
-dirAdmits x k s = onlyBytes x (λ n. dateByte (byteIn n) || turnByte x k s n)
+dirAdmits x k s = onlyBytes x (λ n. dateByte (placeInSlot n) || turnByte x k s n)
 
 -- the staging slot of a cluster: its own, else the first free of 28
 unfoldable pub isPlace : Found → Bool
@@ -157,8 +157,8 @@ abbrev pub slotBefore : W → ℕ → St
 slotBefore w c = slotAs (w .st) c (slotOf (w .st) c)
 
 -- "in a parked block a sector equal to what `staged_read` shows is accepted unchanged"
-abbrev pub parkedSame : SectorWrite → St → ℕ → Bool
-parkedSame x y s = isParked y s && same (sectorOf (x .fat) (x .area) y s) (x .written)
+abbrev pub asParked : SectorWrite → St → ℕ → Bool
+asParked x y s = isParked y s && same (sectorOf (x .fat) (x .area) y s) (x .written)
 
 -- no block is held for the sector, or a parked one: it goes to a new one
 abbrev pub needsBlock : St → ℕ → Bool
@@ -176,7 +176,7 @@ hintOf w = pick (w .staging) (w .hint) 2
 -- it is needed
 unfoldable pub slotAdmits : SectorWrite → W → ℕ → St → Bool
 slotAdmits x w s y =
-    parkedSame x y s
+    asParked x y s
     || takesNone x y s
     || (isMedium (x .fat) (x .area)
     && (not (needsBlock y s) || nextFree (x .fat) (hintOf w) .found)

@@ -14,7 +14,7 @@ use Rattle.sector.specs.Bytes.{same, sameAt}
 use Rattle.slots.specs.Slots.{isDate, sameSlot, dateAt, datesOnly}
 use Rattle.root_slots.specs.OrLaws.{or-none}
 use Rattle.judge.specs.Classify.{SectorWrite}
-use Rattle.admits.specs.Bytes.{keptByte, onlyBytes, slotIn, byteIn, entryAt, keptSlot, inField, dateByte}
+use Rattle.admits.specs.Bytes.{byteAsShown, onlyBytes, slotOfByte, placeInSlot, writtenSlot, slotAsShown, inField, dateByte}
 
 -- a test that says the same of each of them
 pub all-same : (p q : ℕ → Bool) (n i : ℕ) → ((k : ℕ) → i ≤ k → k < i + n → p k ≡ q k) → all p n i ≡ all q n i
@@ -33,10 +33,10 @@ unfolding all
 all-first p n i = either (p i) (λ e. rw e) (λ e. rw e)
 
 -- slot i and byte b of it
-pub slot-is : (i b : ℕ) → b < 32 → slotIn (i * 32 + b) ≡ i
+pub slot-is : (i b : ℕ) → b < 32 → slotOfByte (i * 32 + b) ≡ i
 slot-is i b h = omega arith
 
-pub byte-is : (i b : ℕ) → b < 32 → byteIn (i * 32 + b) ≡ b
+pub byte-is : (i b : ℕ) → b < 32 → placeInSlot (i * 32 + b) ≡ b
 byte-is i b h = omega arith
 
 -- the sector's bytes are its slots' bytes
@@ -78,49 +78,49 @@ or-comm false b = sym (or-none b false refl)
 
 -- slot i differs in dates at most
 unfoldable pub slotDates : SectorWrite → ℕ → Bool
-slotDates x i = all (λ b. keptByte x (i * 32 + b) || dateByte b) 32 0
+slotDates x i = all (λ b. byteAsShown x (i * 32 + b) || dateByte b) 32 0
 
 module _ (x : SectorWrite) where
-  pub kept-is : (n : ℕ) → keptByte x n ≡ sameAt (x .shown) (x .written) n
-  unfolding keptByte
+  pub kept-is : (n : ℕ) → byteAsShown x n ≡ sameAt (x .shown) (x .written) n
+  unfolding byteAsShown
   kept-is n = eqb-sym (getD (x .written) n 0) (getD (x .shown) n 0)
 
-  pub kept-slot : (i : ℕ) → keptSlot x i ≡ sameSlot (x .shown) (x .written) (i * 32)
-  unfolding keptSlot sameSlot
+  pub kept-slot : (i : ℕ) → slotAsShown x i ≡ sameSlot (x .shown) (x .written) (i * 32)
+  unfolding slotAsShown sameSlot
   kept-slot i = all-same _ _ 32 0 (λ b l h. kept-is (i * 32 + b))
 
-  pub date-byte : (i b : ℕ) → b < 32 → (keptByte x (i * 32 + b) || dateByte b) ≡ dateAt (x .shown) (x .written) (i * 32) b
+  pub date-byte : (i b : ℕ) → b < 32 → (byteAsShown x (i * 32 + b) || dateByte b) ≡ dateAt (x .shown) (x .written) (i * 32) b
   unfolding dateAt
   date-byte i b h = rw (kept-is (i * 32 + b), date-same b h)
 
   pub dates-slot : (i : ℕ) → slotDates x i ≡ datesOnly (x .shown) (x .written) (i * 32)
   unfolding slotDates datesOnly
   dates-slot i =
-      all-same (λ b. keptByte x (i * 32 + b) || dateByte b) (dateAt (x .shown) (x .written) (i * 32)) 32 0 (λ b l h. date-byte i b (omega arith))
+      all-same (λ b. byteAsShown x (i * 32 + b) || dateByte b) (dateAt (x .shown) (x .written) (i * 32)) 32 0 (λ b l h. date-byte i b (omega arith))
 
-  pub kept-dates : (i : ℕ) → keptSlot x i ≡ true → slotDates x i ≡ true
-  unfolding keptSlot slotDates
+  pub kept-dates : (i : ℕ) → slotAsShown x i ≡ true → slotDates x i ≡ true
+  unfolding slotAsShown slotDates
   kept-dates i e =
-      all-of (λ b. keptByte x (i * 32 + b) || dateByte b) 32 0
-      (λ b l h. or-l (keptByte x (i * 32 + b)) (dateByte b) (all-at (λ b. keptByte x (i * 32 + b)) 32 0 b e l h))
+      all-of (λ b. byteAsShown x (i * 32 + b) || dateByte b) 32 0
+      (λ b l h. or-l (byteAsShown x (i * 32 + b)) (dateByte b) (all-at (λ b. byteAsShown x (i * 32 + b)) 32 0 b e l h))
 
-  pub entry-byte : (i b : ℕ) → b < 32 → getD (entryAt x i) b 0 ≡ getD (x .written) (i * 32 + b) 0
+  pub entry-byte : (i b : ℕ) → b < 32 → getD (writtenSlot x i) b 0 ≡ getD (x .written) (i * 32 + b) 0
   entry-byte i b h = getD-take 32 (drop (i * 32) (x .written)) b 0 h ∙ getD-drop (i * 32) (x .written) b 0
 
   -- a sector as shown keeps all its bytes
   module _ (long : length (x .shown) ≡ 512) where
-    shown-kept : same (x .shown) (x .written) ≡ all (keptByte x) 512 0
+    shown-kept : same (x .shown) (x .written) ≡ all (byteAsShown x) 512 0
     unfolding same
-    shown-kept = rw long (all-same (sameAt (x .shown) (x .written)) (keptByte x) 512 0 (λ n l h. sym (kept-is n)))
+    shown-kept = rw long (all-same (sameAt (x .shown) (x .written)) (byteAsShown x) 512 0 (λ n l h. sym (kept-is n)))
 
     pub shown-only : (may : ℕ → Bool) → same (x .shown) (x .written) ≡ true → onlyBytes x may ≡ true
     unfolding onlyBytes
     shown-only may e =
-        all-of (λ n. keptByte x n || may n) 512 0
-        (λ n l h. or-l (keptByte x n) (may n) (all-at (keptByte x) 512 0 n (sym shown-kept ∙ e) l h))
+        all-of (λ n. byteAsShown x n || may n) 512 0
+        (λ n l h. or-l (byteAsShown x n) (may n) (all-at (byteAsShown x) 512 0 n (sym shown-kept ∙ e) l h))
 
-    pub shown-slot : (i : ℕ) → i < 16 → same (x .shown) (x .written) ≡ true → keptSlot x i ≡ true
-    unfolding keptSlot
+    pub shown-slot : (i : ℕ) → i < 16 → same (x .shown) (x .written) ≡ true → slotAsShown x i ≡ true
+    unfolding slotAsShown
     shown-slot i h e =
-        all-of (λ b. keptByte x (i * 32 + b)) 32 0
-        (λ b l m. all-at (keptByte x) 512 0 (i * 32 + b) (sym shown-kept ∙ e) (omega arith) (omega arith))
+        all-of (λ b. byteAsShown x (i * 32 + b)) 32 0
+        (λ b l m. all-at (byteAsShown x) 512 0 (i * 32 + b) (sym shown-kept ∙ e) (omega arith) (omega arith))

@@ -8,27 +8,27 @@ use Rattle.loops.specs.Loops.{all}
 use Rattle.judge.specs.Classify.{SectorWrite}
 
 -- byte n is written as it is shown
-unfoldable pub keptByte : SectorWrite → ℕ → Bool
-keptByte x n = eqb (getD (x .written) n 0) (getD (x .shown) n 0)
+unfoldable pub byteAsShown : SectorWrite → ℕ → Bool
+byteAsShown x n = eqb (getD (x .written) n 0) (getD (x .shown) n 0)
 
 -- of the sector's 512 bytes only those that `may` names differ
 unfoldable pub onlyBytes : SectorWrite → (ℕ → Bool) → Bool
-onlyBytes x may = all (λ n. keptByte x n || may n) 512 0
+onlyBytes x may = all (λ n. byteAsShown x n || may n) 512 0
 
 -- a root or directory sector has 16 slots of 32 bytes: the slot that byte n lies in, and its place there
-abbrev pub slotIn : ℕ → ℕ
-slotIn n = n / 32
+abbrev pub slotOfByte : ℕ → ℕ
+slotOfByte n = n / 32
 
-abbrev pub byteIn : ℕ → ℕ
-byteIn n = n % 32
+abbrev pub placeInSlot : ℕ → ℕ
+placeInSlot n = n % 32
 
 -- the 32 bytes of slot i as written
-abbrev pub entryAt : SectorWrite → ℕ → List ℕ
-entryAt x i = take 32 (drop (i * 32) (x .written))
+abbrev pub writtenSlot : SectorWrite → ℕ → List ℕ
+writtenSlot x i = take 32 (drop (i * 32) (x .written))
 
 -- slot i is written as it is shown
-unfoldable pub keptSlot : SectorWrite → ℕ → Bool
-keptSlot x i = all (λ b. keptByte x (i * 32 + b)) 32 0
+unfoldable pub slotAsShown : SectorWrite → ℕ → Bool
+slotAsShown x i = all (λ b. byteAsShown x (i * 32 + b)) 32 0
 
 -- a field of a slot: so many bytes from a place on
 unfoldable pub inField : ℕ → ℕ → ℕ → Bool

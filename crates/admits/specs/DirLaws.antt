@@ -15,7 +15,7 @@ use Rattle.slots.specs.Slots.{dateAt, datesOnly, turnAt}
 use Rattle.root_slots.specs.OrLaws.{or-none}
 use Rattle.dir_sectors.specs.Dir.{fileAt, rowOf, turnedBy, isFound, slotPasses, dirNumber}
 use Rattle.judge.specs.Classify.{SectorWrite, dirOf}
-use Rattle.admits.specs.Bytes.{keptByte, onlyBytes, byteIn, inField, dateByte}
+use Rattle.admits.specs.Bytes.{byteAsShown, onlyBytes, placeInSlot, inField, dateByte}
 use Rattle.admits.specs.Admits.{shownIn, unturnedAt, turnByte, dirAdmits}
 use Rattle.admits.specs.ByteLaws.{all-same, all-first, eqb-sym, slot-is, byte-is, by-slots, slotDates, date-byte, dates-slot}
 use Rattle.admits.specs.ZeroLaws.{pass-pick}
@@ -94,13 +94,13 @@ module _ (x : SectorWrite) (k s : ℕ) where
       (λ e. rw (e, no-file i e, and-no (turnAt (x .shown) (x .written) (i * 32)) false refl))
 
   abbrev dirByte : ℕ → Bool
-  dirByte n = keptByte x n || (dateByte (byteIn n) || turnByte x k s n)
+  dirByte n = byteAsShown x n || (dateByte (placeInSlot n) || turnByte x k s n)
 
   abbrev dateOf : ℕ → ℕ → Bool
-  dateOf i b = keptByte x (i * 32 + b) || dateByte b
+  dateOf i b = byteAsShown x (i * 32 + b) || dateByte b
 
   byte-0 : (i : ℕ) → dirByte (i * 32 + 0)
-      ≡ (keptByte x (i * 32 + 0) || (eqb (getD (x .written) (i * 32) 0) 0xE5 && not (eqb (getD (x .shown) (i * 32) 0) 0xE5) && isFile i))
+      ≡ (byteAsShown x (i * 32 + 0) || (eqb (getD (x .written) (i * 32) 0) 0xE5 && not (eqb (getD (x .shown) (i * 32) 0) 0xE5) && isFile i))
   unfolding dateByte inField turnByte
   byte-0 i =
       let q : i * 32 + 0 ≡ i * 32 = omega arith in
@@ -113,12 +113,12 @@ module _ (x : SectorWrite) (k s : ℕ) where
   abbrev others : ℕ → Bool
   others i = all (dateOf i) 31 1
 
-  dates-first : (i : ℕ) → slotDates x i ≡ (keptByte x (i * 32 + 0) && others i)
+  dates-first : (i : ℕ) → slotDates x i ≡ (byteAsShown x (i * 32 + 0) && others i)
   unfolding slotDates
   dates-first i = all-first (dateOf i) 31 0 ∙ ap (λ (b : Bool). b && others i) (no-date i)
     where
-      no-date : (i : ℕ) → dateOf i 0 ≡ keptByte x (i * 32 + 0)
-      no-date i = rw date-0 (or-none (keptByte x (i * 32 + 0)) false refl)
+      no-date : (i : ℕ) → dateOf i 0 ≡ byteAsShown x (i * 32 + 0)
+      no-date i = rw date-0 (or-none (byteAsShown x (i * 32 + 0)) false refl)
 
   turn-first : (i : ℕ) → turnAt (x .shown) (x .written) (i * 32)
       ≡ (not (eqb (getD (x .shown) (i * 32) 0) 0xE5) && eqb (getD (x .written) (i * 32) 0) 0xE5 && others i)
@@ -130,7 +130,7 @@ module _ (x : SectorWrite) (k s : ℕ) where
   slot-pass i =
       all-first (λ b. dirByte (i * 32 + b)) 31 0
       ∙ rw (byte-0 i, all-same (λ b. dirByte (i * 32 + b)) (dateOf i) 31 1 (λ b l h. byte-b i b l (omega arith)))
-      (slot-tests (keptByte x (i * 32 + 0)) (eqb (getD (x .written) (i * 32) 0) 0xE5) (eqb (getD (x .shown) (i * 32) 0) 0xE5) (isFile i) (others i)
+      (slot-tests (byteAsShown x (i * 32 + 0)) (eqb (getD (x .written) (i * 32) 0) 0xE5) (eqb (getD (x .shown) (i * 32) 0) 0xE5) (isFile i) (others i)
       ∙ rw (← dates-slot x i, dates-first i, turned-same i, turn-first i))
 
   pub dir-pass : eqb (dirNumber (dirOf x k s)) 0 ≡ dirAdmits x k s
@@ -141,13 +141,13 @@ module _ (x : SectorWrite) (k s : ℕ) where
 
   -- a turn is more than dates
   pub turn-dates : (i : ℕ) → isFound (turnedBy (dirOf x k s) i) ≡ true → slotDates x i ≡ false
-  unfolding keptByte
+  unfolding byteAsShown
   turn-dates i e =
       let t : (not was && wrote && others i && isFile i) ≡ true = rw (turned-same i, turn-first i) at e in
       let a = and-0 (not was && wrote) (others i) (and-0 (not was && wrote && others i) (isFile i) t) in
       let was-not = not-true was (and-0 (not was) wrote a) in
       let q : i * 32 + 0 ≡ i * 32 = omega arith in
-      let differs : keptByte x (i * 32 + 0) ≡ false =
+      let differs : byteAsShown x (i * 32 + 0) ≡ false =
       rw (q, eqb-true (getD (x .written) (i * 32) 0) 0xE5 (and-1 (not was) wrote a)) (eqb-sym 0xE5 (getD (x .shown) (i * 32) 0) ∙ was-not) in
       dates-first i ∙ rw differs
     where

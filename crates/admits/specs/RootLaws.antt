@@ -25,8 +25,8 @@ use Rattle.state.specs.declared.w.W.{W}
 use Rattle.clusters.specs.Clusters.{isNothing}
 use Rattle.root_sectors.specs.Root.{startFits, slotNumber, keptAt, needsRec, rootNumber}
 use Rattle.judge.specs.Classify.{SectorWrite, rootOf}
-use Rattle.admits.specs.Bytes.{keptByte, onlyBytes, entryAt, keptSlot, dateByte}
-use Rattle.admits.specs.Admits.{isHost, letter, isUpdateFile, attrBit, isLongEntry, startIn, sizeIn, nameAdmits, entryAdmits, hostSlotAdmits, rootByte, hasRecord, needsPlace, rootAdmits}
+use Rattle.admits.specs.Bytes.{byteAsShown, onlyBytes, writtenSlot, slotAsShown, dateByte}
+use Rattle.admits.specs.Admits.{isHost, letter, isUpdateFile, attrBit, isLongSlot, slotStart, slotSize, nameAdmits, recordAdmits, hostSlotAdmits, rootByte, hasRecord, needsPlace, rootAdmits}
 use Rattle.admits.specs.ByteLaws.{all-same, all-or, slot-is, byte-is, by-slots, slotDates, kept-slot, dates-slot, kept-dates, entry-byte}
 use Rattle.admits.specs.ZeroLaws.{pass-pick, first-zero}
 
@@ -79,8 +79,8 @@ module _ (e d : List ℕ) (at : ℕ) (bytes : (b : ℕ) → b < 32 → getD e b 
   first-same : getD e 0 0 ≡ firstByte d at
   first-same = let q : at + 0 ≡ at = omega arith in rw q at (bytes 0 (omega arith))
 
-  long-same : isLongEntry e ≡ isLong d at
-  unfolding isLongEntry isLong
+  long-same : isLongSlot e ≡ isLong d at
+  unfolding isLongSlot isLong
   long-same = rw (bytes 0x0B (omega arith))
 
   volume-same : attrBit e 8 ≡ bit (attrOf d at) 3
@@ -106,14 +106,14 @@ module _ (e d : List ℕ) (at : ℕ) (bytes : (b : ℕ) → b < 32 → getD e b 
           eq-eqb (m + n * 256) 0 (omega arith))
           (λ t. let a = eqb-true (m + n * 256) 0 t in and-of (eqb m 0) (eqb n 0) (eq-eqb m 0 (omega arith)) (eq-eqb n 0 (omega arith)))
 
-  start-same : startIn e ≡ startOf d at
-  unfolding startIn word
+  start-same : slotStart e ≡ startOf d at
+  unfolding slotStart word
   start-same =
       let q : at + 0x1A + 1 ≡ at + 0x1B = omega arith in
       rw (q, bytes 0x1A (omega arith), bytes 0x1B (omega arith)) (omega arith)
 
-  size-same : sizeIn e ≡ sizeOf d at
-  unfolding sizeIn word32 word
+  size-same : slotSize e ≡ sizeOf d at
+  unfolding slotSize word32 word
   size-same =
       let q : at + 0x1C + 1 ≡ at + 0x1D = omega arith in
       let r : at + 0x1C + 2 ≡ at + 0x1E = omega arith in
@@ -147,11 +147,11 @@ module _ (e d : List ℕ) (at : ℕ) (bytes : (b : ℕ) → b < 32 → getD e b 
       (pick (bit (attrOf d at) 3 || not (eqb (highOf d at) 0) || not host) false
       (house || (not (bit (attrOf d at) 4) && updateName d at && leb (sizeOf d at) 638988))))
 
-  entry-same : (host house : Bool) → entryAdmits e host house ≡ admittedAt (eqb (startOf d at) 0 || host) house
-  unfolding entryAdmits nameAdmits
+  entry-same : (host house : Bool) → recordAdmits e host house ≡ admittedAt (eqb (startOf d at) 0 || host) house
+  unfolding recordAdmits nameAdmits
   entry-same host house =
-      admit-tests (eqb (getD e 0 0) 0) (eqb (getD e 0 0) 0xE5) (isLongEntry e) (attrBit e 8) (eqb (getD e 0x14 0) 0) (eqb (getD e 0x15 0) 0)
-      (eqb (startIn e) 0 || host) house (not (attrBit e 16) && isUpdateFile e && leb (sizeIn e) 638988)
+      admit-tests (eqb (getD e 0 0) 0) (eqb (getD e 0 0) 0xE5) (isLongSlot e) (attrBit e 8) (eqb (getD e 0x14 0) 0) (eqb (getD e 0x15 0) 0)
+      (eqb (slotStart e) 0 || host) house (not (attrBit e 16) && isUpdateFile e && leb (slotSize e) 638988)
       ∙ rw (first-same, long-same, volume-same, high-same, start-same, folder-same, update-same, size-same)
 
 module _ (x : SectorWrite) (w : W) (s : ℕ) where
@@ -159,27 +159,27 @@ module _ (x : SectorWrite) (w : W) (s : ℕ) where
   unfolding slotAdmitted startFits hostSlotAdmits
   host-slot i =
       let q : s * 16 + i - s * 16 ≡ i = omega arith in
-      let b : (b : ℕ) → b < 32 → getD (entryAt x i) b 0 ≡ getD (x .written) (i * 32 + b) 0 = entry-byte x i in
-      rw (q, start-same (entryAt x i) (x .written) (i * 32) b)
-      (sym (entry-same (entryAt x i) (x .written) (i * 32) b (isHost x w (startOf (x .written) (i * 32))) (isHousekeeping (longName (w .rec) (x .written) (s * 16) (s * 16 + i)))))
+      let b : (b : ℕ) → b < 32 → getD (writtenSlot x i) b 0 ≡ getD (x .written) (i * 32 + b) 0 = entry-byte x i in
+      rw (q, start-same (writtenSlot x i) (x .written) (i * 32) b)
+      (sym (entry-same (writtenSlot x i) (x .written) (i * 32) b (isHost x w (startOf (x .written) (i * 32))) (isHousekeeping (longName (w .rec) (x .written) (s * 16) (s * 16 + i)))))
 
   -- the bytes of slot i may differ as they do
   unfoldable slotBytes : ℕ → Bool
-  slotBytes i = all (λ b. keptByte x (i * 32 + b) || rootByte x w s (i * 32 + b)) 32 0
+  slotBytes i = all (λ b. byteAsShown x (i * 32 + b) || rootByte x w s (i * 32 + b)) 32 0
 
-  slot-bytes : (i : ℕ) → slotBytes i ≡ pick (leb (s * 16 + i) 6) (slotDates x i) (keptSlot x i || hostSlotAdmits x w s i)
-  unfolding slotBytes rootByte slotDates keptSlot
+  slot-bytes : (i : ℕ) → slotBytes i ≡ pick (leb (s * 16 + i) 6) (slotDates x i) (slotAsShown x i || hostSlotAdmits x w s i)
+  unfolding slotBytes rootByte slotDates slotAsShown
   slot-bytes i =
-      all-same (λ b. keptByte x (i * 32 + b) || rootByte x w s (i * 32 + b))
-      (λ b. keptByte x (i * 32 + b) || pick (leb (s * 16 + i) 6) (dateByte b) (hostSlotAdmits x w s i)) 32 0
+      all-same (λ b. byteAsShown x (i * 32 + b) || rootByte x w s (i * 32 + b))
+      (λ b. byteAsShown x (i * 32 + b) || pick (leb (s * 16 + i) 6) (dateByte b) (hostSlotAdmits x w s i)) 32 0
       (λ b l h. rw (slot-is i b (omega arith), byte-is i b (omega arith)))
-      ∙ either (leb (s * 16 + i) 6) (λ e. rw e) (λ e. rw e (all-or (λ b. keptByte x (i * 32 + b)) (hostSlotAdmits x w s i) 32 0))
+      ∙ either (leb (s * 16 + i) 6) (λ e. rw e) (λ e. rw e (all-or (λ b. byteAsShown x (i * 32 + b)) (hostSlotAdmits x w s i) 32 0))
 
   slot-pass : (i : ℕ) → eqb (slotNumber (rootOf x w s) i) 0 ≡ slotBytes i
   unfolding slotNumber
   slot-pass i =
       rw (slot-bytes i, ← kept-slot x i, ← dates-slot x i, host-slot i)
-      (either (keptSlot x i)
+      (either (slotAsShown x i)
       (λ e. rw (e, kept-dates x i e) (either (leb (s * 16 + i) 6) (λ o. rw o) (λ o. rw o)))
       (λ e. rw e (either (leb (s * 16 + i) 6) (λ o. rw o (pass-pick (slotDates x i) 7 refl)) (λ o. rw o (pass-pick (hostSlotAdmits x w s i) 8 refl)))))
 
@@ -206,21 +206,21 @@ module _ (x : SectorWrite) (w : W) (s : ℕ) where
       rw (← kept-slot x i)
       (either (leb (s * 16 + i) 6)
       (λ e. let l = leb-true (s * 16 + i) 6 e in
-      rw (e, lt-leb 7 (s * 16 + i) (omega arith), and-no (not (keptSlot x i)) false refl))
+      rw (e, lt-leb 7 (s * 16 + i) (omega arith), and-no (not (slotAsShown x i)) false refl))
       (λ e. let l = leb-false (s * 16 + i) 6 e in
-      rw (e, le-leb 7 (s * 16 + i) (omega arith), no-record (s * 16 + i) (omega arith)) (either (keptSlot x i) (λ k. rw k) (λ k. rw k))))
+      rw (e, le-leb 7 (s * 16 + i) (omega arith), no-record (s * 16 + i) (omega arith)) (either (slotAsShown x i) (λ k. rw k) (λ k. rw k))))
 
   pub root-pass : eqb (rootNumber (rootOf x w s)) 0 ≡ rootAdmits x w s
   unfolding rootNumber rootAdmits onlyBytes freeRecs slotBytes
   root-pass =
       first-zero (slotNumber (rootOf x w s)) slotBytes 16 (freeRecs (w .rec)) (count (needsRec (rootOf x w s)) 16 0) 15 slot-pass refl
-      ∙ rw (by-slots (λ n. keptByte x n || rootByte x w s n), count-same (needsRec (rootOf x w s)) (needsPlace x w s) 16 0 (λ i l h. place-same i))
+      ∙ rw (by-slots (λ n. byteAsShown x n || rootByte x w s n), count-same (needsRec (rootOf x w s)) (needsPlace x w s) 16 0 (λ i l h. place-same i))
 
   -- of a sector that is taken, the drive's own slots differ in dates at most
   pub own-dates : rootNumber (rootOf x w s) ≡ 0 → (i : ℕ) → i < 16 → leb (s * 16 + i) 6 ≡ true → slotDates x i ≡ true
   unfolding rootAdmits onlyBytes slotBytes
   own-dates n i h o =
       let a = sym root-pass ∙ eq-eqb (rootNumber (rootOf x w s)) 0 n in
-      let b = and-0 (all (λ n. keptByte x n || rootByte x w s n) 512 0) _ a in
-      let t = all-at slotBytes 16 0 i (sym (by-slots (λ n. keptByte x n || rootByte x w s n)) ∙ b) (omega arith) (omega arith) in
+      let b = and-0 (all (λ n. byteAsShown x n || rootByte x w s n) 512 0) _ a in
+      let t = all-at slotBytes 16 0 i (sym (by-slots (λ n. byteAsShown x n || rootByte x w s n)) ∙ b) (omega arith) (omega arith) in
       rw o at (sym (slot-bytes i) ∙ t)

@@ -35,7 +35,7 @@ use Rattle.root_sectors.specs.Root.{RootWrite, slotAt, keptAt}
 use Rattle.staging.specs.Blocks.{heldFor, filledBlock, areaWith, holdingSt, writtenSt}
 use Rattle.judge.specs.Classify.{SectorWrite, Outcome, fatOf, rootOf, dirOf, ownerIn}
 use Rattle.write.specs.Write.{Written, takenState}
-use Rattle.admits.specs.Admits.{slotPlace, slotBefore, parkedSame, needsBlock, takesNone, hintOf, isHost, asShown}
+use Rattle.admits.specs.Admits.{slotPlace, slotBefore, asParked, needsBlock, takesNone, hintOf, isHost, asShown}
 use Rattle.opens.specs.Opens.{opens}
 use Rattle.demand1.specs.Sound.{Sound}
 
@@ -167,7 +167,7 @@ differs x = asShown x ≡ false
 unfoldable pub InCluster : SectorWrite → W → ℕ → ℕ → Outcome → DirKind → Type 0
 InCluster x w c s o (Kind k) = differs x → DirOnly x w k s o
 InCluster x w c s o NoDir =
-    (isHost x w c ≡ true → parkedSame x (slotBefore w c) s ≡ false → StageOnly x w c s o) × (isHost x w c ≡ false → differs x → ⊥)
+    (isHost x w c ≡ true → asParked x (slotBefore w c) s ≡ false → StageOnly x w c s o) × (isHost x w c ≡ false → differs x → ⊥)
 
 -- what it changes by its place; none is taken outside the drive
 unfoldable pub AtPlace : SectorWrite → W → Outcome → Place → Type 0

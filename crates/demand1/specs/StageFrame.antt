@@ -33,7 +33,7 @@ use Rattle.staging.specs.Blocks.{isParked, heldFor, blockAt, filledBlock, holdi
 use Rattle.staging.specs.BlockLaws.{bit-le}
 use Rattle.staging.specs.Staging.{Staged, refused, slotFor, moveId, movedIds, putInto, intoBlock, withBlock, onMedium, inSlot, claimed, inFound, stage}
 use Rattle.judge.specs.Classify.{SectorWrite, stageOf, outcomeOf}
-use Rattle.admits.specs.Admits.{isPlace, slotPlace, slotAs, slotBefore, parkedSame, takesNone, hintOf}
+use Rattle.admits.specs.Admits.{isPlace, slotPlace, slotAs, slotBefore, asParked, takesNone, hintOf}
 use Rattle.demand1.specs.Sound.{Sound}
 use Rattle.demand1.specs.Changes.{Same, StageOnly, blockTo, stagingState, hintAfter}
 use Rattle.demand1.specs.Area.{area-length, area-other, filled-length, free-has}
@@ -61,7 +61,7 @@ module _ (x : SectorWrite) (w : W) (c s : ℕ) where
       (λ e. rows-same (moveId (stageOf x c s)) (λ j id. pick (movesRow j id) (setBit id 15) id) (x .ids) (λ j id h. rw e))
 
   abbrev Done : Staged → Type 0
-  Done r = (r .number ≡ 0 → parkedSame x (slotBefore w c) s ≡ false → StageOnly x w c s (outcomeOf r)) × (r .number ≡ 0 → r .changed ≡ false → Same x w (outcomeOf r))
+  Done r = (r .number ≡ 0 → asParked x (slotBefore w c) s ≡ false → StageOnly x w c s (outcomeOf r)) × (r .number ≡ 0 → r .changed ≡ false → Same x w (outcomeOf r))
 
   not-taken : (r : Staged) → (r .number ≡ 0 → ⊥) → Done r
   not-taken r h = (λ e. absurd (h e), λ e. absurd (h e))

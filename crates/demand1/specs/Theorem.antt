@@ -17,7 +17,7 @@ use Rattle.state.specs.Setters.{withBoot, withFat1, withPair, withRec, withSt, 
 use Rattle.state.specs.declared.w.W.{W}
 use Rattle.judge.specs.Classify.{SectorWrite, Outcome, refused, classify}
 use Rattle.write.specs.Write.{Written, takenState, refusedState, settledState, settled, unjudged, wholeSectors, tableFits, write}
-use Rattle.admits.specs.Admits.{isHost, asShown, parkedSame, slotBefore}
+use Rattle.admits.specs.Admits.{isHost, asShown, asParked, slotBefore}
 use Rattle.admits.specs.AdmitLaws.{write-pass}
 use Rattle.opens.specs.Opens.{unchangedIn, unchangedAt, datesIn, datesAt, opensAt, opens}
 use Rattle.opens.specs.OpenLaws.{write-opens}
@@ -125,7 +125,7 @@ module _ (x : SectorWrite) (w : W) where
   unfolding unchangedIn InCluster withVer stagingState withHint withStageT withStaging withSt
   session-in o c s (Kind k) e a = ap (λ (u : W). u .session) (a (neither (asShown x) (datesIn x (Kind k)) e) .state)
   session-in o c s NoDir e a =
-      let q = neither (pick (isHost x w c) (parkedSame x (slotBefore w c) s) (asShown x)) (datesIn x NoDir) e in
+      let q = neither (pick (isHost x w c) (asParked x (slotBefore w c) s) (asShown x)) (datesIn x NoDir) e in
       either (isHost x w c)
       (λ h. ap (λ (u : W). u .session) (a .0 h (rw h at q) .state))
       (λ h. absurd (a .1 h (rw h at q)))

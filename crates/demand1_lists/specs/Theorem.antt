@@ -19,10 +19,10 @@ use Rattle.demand1_sessions.specs.Demand1.{Stays, MayEnd, Starts}
 use Rattle.demand1_sessions.specs.Theorem.{demand-1-calls}
 use Rattle.demand3.specs.Step.{Session, Call, write, poll, release, releaseAll, busReset, resetMode, setReadOnly, report, refusedStart, sectorOf, lent, step}
 use Rattle.demand3.specs.History.{History, event, next, run, begun}
-use Rattle.demand1_lists.specs.Along.{Does, Along}
+use Rattle.demand1_lists.specs.Along.{DoesListed, Along}
 
-does : (t : Table) (s : Session) (c : Call) → Does t s c
-unfolding Does
+does : (t : Table) (s : Session) (c : Call) → DoesListed t s c
+unfolding DoesListed
 does t s (write x busy m) = demand1 (sectorOf t s x busy m) (s .w)
 does t s (poll clock mounted m) = demand-1-calls .poll (lent t s m) (s .w) clock mounted
 does t s (release m) = demand-1-calls .release (lent t s m) (s .w)

@@ -29,8 +29,8 @@ use Rattle.staging.specs.Staging.{Staged, slotFor, startStaging, putInto, intoB
 use Rattle.judge.specs.Classify.{SectorWrite, Outcome, refused, unlessShown, bootPasses, boot, fatOf, fat, rootOf, root, dirOf, dir}
 use Rattle.judge.specs.Classify.{dataNumber, otherData, ownerIn, stageOf, cluster, atPlace, classify}
 use Rattle.write.specs.Write.{Written, settled, unjudged, wholeSectors, tableFits, write}
-use Rattle.admits.specs.Bytes.{keptByte, onlyBytes, slotIn, byteIn, keptSlot, dateByte}
-use Rattle.admits.specs.Admits.{isHost, asShown, slotAs, slotBefore, parkedSame, needsBlock, takesNone}
+use Rattle.admits.specs.Bytes.{byteAsShown, onlyBytes, slotOfByte, placeInSlot, slotAsShown, dateByte}
+use Rattle.admits.specs.Admits.{isHost, asShown, slotAs, slotBefore, asParked, needsBlock, takesNone}
 use Rattle.admits.specs.ByteLaws.{all-same, slot-is, byte-is, by-slots, slotDates, kept-slot}
 use Rattle.admits.specs.RootLaws.{own-dates}
 use Rattle.admits.specs.DirLaws.{turn-dates, taken-dates}
@@ -51,30 +51,30 @@ never n e q = absurd (true≢false (sym (eq-eqb n 0 q) ∙ e))
 
 module _ (x : SectorWrite) where
   -- dates alone, slot by slot
-  dates-slots : onlyBytes x (λ n. dateByte (byteIn n)) ≡ all (slotDates x) 16 0
+  dates-slots : onlyBytes x (λ n. dateByte (placeInSlot n)) ≡ all (slotDates x) 16 0
   unfolding onlyBytes slotDates
   dates-slots =
-      by-slots (λ n. keptByte x n || dateByte (byteIn n))
-      ∙ all-same (λ i. all (λ b. keptByte x (i * 32 + b) || dateByte (byteIn (i * 32 + b))) 32 0) (slotDates x) 16 0
-      (λ i l h. all-same (λ b. keptByte x (i * 32 + b) || dateByte (byteIn (i * 32 + b))) (λ b. keptByte x (i * 32 + b) || dateByte b) 32 0
+      by-slots (λ n. byteAsShown x n || dateByte (placeInSlot n))
+      ∙ all-same (λ i. all (λ b. byteAsShown x (i * 32 + b) || dateByte (placeInSlot (i * 32 + b))) 32 0) (slotDates x) 16 0
+      (λ i l h. all-same (λ b. byteAsShown x (i * 32 + b) || dateByte (placeInSlot (i * 32 + b))) (λ b. byteAsShown x (i * 32 + b) || dateByte b) 32 0
       (λ b m k. rw (byte-is i b (omega arith))))
 
   -- of the drive's own slots
   abbrev ownDates : ℕ → ℕ → Bool
-  ownDates s i = pick (leb (s * 16 + i) 6) (slotDates x i) (keptSlot x i)
+  ownDates s i = pick (leb (s * 16 + i) 6) (slotDates x i) (slotAsShown x i)
 
-  own-slots : (s : ℕ) → onlyBytes x (λ n. leb (s * 16 + slotIn n) 6 && dateByte (byteIn n)) ≡ all (ownDates s) 16 0
-  unfolding onlyBytes slotDates keptSlot
+  own-slots : (s : ℕ) → onlyBytes x (λ n. leb (s * 16 + slotOfByte n) 6 && dateByte (placeInSlot n)) ≡ all (ownDates s) 16 0
+  unfolding onlyBytes slotDates slotAsShown
   own-slots s =
       by-slots byte
       ∙ all-same (λ i. all (λ b. byte (i * 32 + b)) 32 0) (ownDates s) 16 0
-      (λ i l h. all-same (λ b. byte (i * 32 + b)) (λ b. keptByte x (i * 32 + b) || (leb (s * 16 + i) 6 && dateByte b)) 32 0
+      (λ i l h. all-same (λ b. byte (i * 32 + b)) (λ b. byteAsShown x (i * 32 + b) || (leb (s * 16 + i) 6 && dateByte b)) 32 0
       (λ b m k. rw (slot-is i b (omega arith), byte-is i b (omega arith)))
       ∙ either (leb (s * 16 + i) 6) (λ e. rw e)
-      (λ e. rw e (all-same (λ b. keptByte x (i * 32 + b) || false) (λ b. keptByte x (i * 32 + b)) 32 0 (λ b m k. or-none (keptByte x (i * 32 + b)) false refl))))
+      (λ e. rw e (all-same (λ b. byteAsShown x (i * 32 + b) || false) (λ b. byteAsShown x (i * 32 + b)) 32 0 (λ b m k. or-none (byteAsShown x (i * 32 + b)) false refl))))
     where
       byte : ℕ → Bool
-      byte n = keptByte x n || (leb (s * 16 + slotIn n) 6 && dateByte (byteIn n))
+      byte n = byteAsShown x n || (leb (s * 16 + slotOfByte n) 6 && dateByte (placeInSlot n))
 
 module _ (x : SectorWrite) (w : W) where
   -- one as shown doesn't; another does, but for dates
@@ -92,17 +92,17 @@ module _ (x : SectorWrite) (w : W) where
   unfolding fat
   fat-opens s n = eq-eqb (fatNumber (fatOf x w s)) 0 n
 
-  root-opens : (s : ℕ) → root x w s .number ≡ 0 → root x w s .changed ≡ not (onlyBytes x (λ n. leb (s * 16 + slotIn n) 6 && dateByte (byteIn n)))
+  root-opens : (s : ℕ) → root x w s .number ≡ 0 → root x w s .changed ≡ not (onlyBytes x (λ n. leb (s * 16 + slotOfByte n) 6 && dateByte (placeInSlot n)))
   unfolding root rootChanged keptAt
   root-opens s n =
       rw (eq-eqb (rootNumber (rootOf x w s)) 0 n, own-slots x s)
       (some-not (keptAt (rootOf x w s)) (ownDates x s) 16 0
       (λ i l h. rw (← kept-slot x i)
       (either (leb (s * 16 + i) 6)
-      (λ e. rw (e, own-dates x w s n i (omega arith) e) (and-no (not (keptSlot x i)) false refl))
-      (λ e. rw e (either (keptSlot x i) (λ k. rw k) (λ k. rw k))))))
+      (λ e. rw (e, own-dates x w s n i (omega arith) e) (and-no (not (slotAsShown x i)) false refl))
+      (λ e. rw e (either (slotAsShown x i) (λ k. rw k) (λ k. rw k))))))
 
-  dir-opens : (k s : ℕ) → dir x w k s .number ≡ 0 → dir x w k s .changed ≡ not (onlyBytes x (λ n. dateByte (byteIn n)))
+  dir-opens : (k s : ℕ) → dir x w k s .number ≡ 0 → dir x w k s .changed ≡ not (onlyBytes x (λ n. dateByte (placeInSlot n)))
   unfolding dir dirChanged
   dir-opens k s n =
       rw (eq-eqb (dirNumber (dirOf x k s)) 0 n, dates-slots x)
@@ -129,26 +129,26 @@ module _ (x : SectorWrite) (w : W) where
         (λ b. into-opens u i y (heldFor y s)))
         (λ m n. never 17 refl n))
 
-    slot-opens : (u : W) (i : ℕ) (y : St) → inSlot (stageOf x c s) u i y .number ≡ 0 → inSlot (stageOf x c s) u i y .changed ≡ not (parkedSame x y s)
+    slot-opens : (u : W) (i : ℕ) (y : St) → inSlot (stageOf x c s) u i y .number ≡ 0 → inSlot (stageOf x c s) u i y .changed ≡ not (asParked x y s)
     unfolding inSlot
-    slot-opens u i y = either (parkedSame x y s) (λ e. rw e (λ n. refl)) (λ e. rw e (medium-opens (startStaging u) i y))
+    slot-opens u i y = either (asParked x y s) (λ e. rw e (λ n. refl)) (λ e. rw e (medium-opens (startStaging u) i y))
 
     claim-opens : claimed (stageOf x c s) w (freeSlot (w .st)) .number ≡ 0
-        → claimed (stageOf x c s) w (freeSlot (w .st)) .changed ≡ not (parkedSame x (slotFor c) s)
+        → claimed (stageOf x c s) w (freeSlot (w .st)) .changed ≡ not (asParked x (slotFor c) s)
     unfolding claimed
     claim-opens =
         found-by (freeSlot (w .st))
         (λ i f. rw f (slot-opens (withSt w (set (w .st) i (slotFor c))) i (slotFor c))) (λ f. rw f (λ n. never 16 refl n))
 
     found-opens : inFound (stageOf x c s) w (slotOf (w .st) c) .number ≡ 0
-        → inFound (stageOf x c s) w (slotOf (w .st) c) .changed ≡ not (parkedSame x (slotBefore w c) s)
+        → inFound (stageOf x c s) w (slotOf (w .st) c) .changed ≡ not (asParked x (slotBefore w c) s)
     unfolding inFound slotAs
     found-opens = found-by (slotOf (w .st) c) (λ i e. rw e (slot-opens w i (getD (w .st) i noSt))) (λ e. rw e claim-opens)
 
-    stage-opens : stage (stageOf x c s) w .number ≡ 0 → stage (stageOf x c s) w .changed ≡ not (parkedSame x (slotBefore w c) s)
+    stage-opens : stage (stageOf x c s) w .number ≡ 0 → stage (stageOf x c s) w .changed ≡ not (asParked x (slotBefore w c) s)
     unfolding stage
     stage-opens =
-        pick-by (λ (r : Staged). r .number ≡ 0 → r .changed ≡ not (parkedSame x (slotBefore w c) s)) (x .busy) _ _ (λ e n. never 19 refl n) (λ e. found-opens)
+        pick-by (λ (r : Staged). r .number ≡ 0 → r .changed ≡ not (asParked x (slotBefore w c) s)) (x .busy) _ _ (λ e n. never 19 refl n) (λ e. found-opens)
 
   -- places
   other-opens : (c : ℕ) → unlessShown x w (otherData x w c) .number ≡ 0 → unlessShown x w (otherData x w c) .changed ≡ not (asShown x || false)
@@ -157,17 +157,17 @@ module _ (x : SectorWrite) (w : W) where
 
   cluster-opens : (c s : ℕ) (d : DirKind) → cluster x w c s d .number ≡ 0 → cluster x w c s d .changed ≡ not (unchangedIn x w c s d || datesIn x d)
   unfolding cluster unchangedIn datesIn
-  cluster-opens c s (Kind k) = unless-opens (dir x w k s) (onlyBytes x (λ n. dateByte (byteIn n))) (dir-opens k s)
+  cluster-opens c s (Kind k) = unless-opens (dir x w k s) (onlyBytes x (λ n. dateByte (placeInSlot n))) (dir-opens k s)
   cluster-opens c s NoDir =
       either (isHost x w c)
-      (λ e. rw e (λ n. stage-opens c s n ∙ ap not (sym (or-none (parkedSame x (slotBefore w c) s) false refl))))
+      (λ e. rw e (λ n. stage-opens c s n ∙ ap not (sym (or-none (asParked x (slotBefore w c) s) false refl))))
       (λ e. rw e (other-opens c))
 
   place-opens : (p : Place) → atPlace x w p .number ≡ 0 → atPlace x w p .changed ≡ opensAt x w p
   unfolding atPlace opensAt unchangedAt datesAt
   place-opens Boot = unless-opens (boot x w) false boot-opens
   place-opens (Fat s) = unless-opens (fat x w s) false (fat-opens s)
-  place-opens (Root s) = unless-opens (root x w s) (onlyBytes x (λ n. leb (s * 16 + slotIn n) 6 && dateByte (byteIn n))) (root-opens s)
+  place-opens (Root s) = unless-opens (root x w s) (onlyBytes x (λ n. leb (s * 16 + slotOfByte n) 6 && dateByte (placeInSlot n))) (root-opens s)
   place-opens (Data c s) = cluster-opens c s (dirKindOf c)
   place-opens Outside = λ n. never 2 refl n
 

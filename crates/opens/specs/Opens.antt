@@ -11,13 +11,13 @@ use Rattle.vdisk.specs.declared.drive.DirKind.{DirKind}
 use Rattle.vdisk.specs.declared.drive.DirKind.the-variants.{Kind, NoDir}
 use Rattle.state.specs.declared.w.W.{W}
 use Rattle.judge.specs.Classify.{SectorWrite}
-use Rattle.admits.specs.Bytes.{onlyBytes, slotIn, byteIn, dateByte}
-use Rattle.admits.specs.Admits.{isHost, asShown, slotBefore, parkedSame}
+use Rattle.admits.specs.Bytes.{onlyBytes, slotOfByte, placeInSlot, dateByte}
+use Rattle.admits.specs.Admits.{isHost, asShown, slotBefore, asParked}
 
 -- "accepted unchanged": of a host cluster, in a parked block and equal to what `staged_read` shows; elsewhere equal to the shown one
 unfoldable pub unchangedIn : SectorWrite → W → ℕ → ℕ → DirKind → Bool
 unchangedIn x w c s (Kind k) = asShown x
-unchangedIn x w c s NoDir = pick (isHost x w c) (parkedSame x (slotBefore w c) s) (asShown x)
+unchangedIn x w c s NoDir = pick (isHost x w c) (asParked x (slotBefore w c) s) (asShown x)
 
 unfoldable pub unchangedAt : SectorWrite → W → Place → Bool
 unchangedAt x w Boot = asShown x
@@ -28,13 +28,13 @@ unchangedAt x w Outside = false
 
 -- "nothing but dropped dates changed": dates of root slots 0 to 6, or of a directory's slots
 unfoldable pub datesIn : SectorWrite → DirKind → Bool
-datesIn x (Kind k) = onlyBytes x (λ n. dateByte (byteIn n))
+datesIn x (Kind k) = onlyBytes x (λ n. dateByte (placeInSlot n))
 datesIn x NoDir = false
 
 unfoldable pub datesAt : SectorWrite → Place → Bool
 datesAt x Boot = false
 datesAt x (Fat s) = false
-datesAt x (Root s) = onlyBytes x (λ n. leb (s * 16 + slotIn n) 6 && dateByte (byteIn n))
+datesAt x (Root s) = onlyBytes x (λ n. leb (s * 16 + slotOfByte n) 6 && dateByte (placeInSlot n))
 datesAt x (Data c s) = datesIn x (dirKindOf c)
 datesAt x Outside = false
 
