@@ -1,76 +1,118 @@
 -- A sector is taken exactly where the rules admit it.
-use Prim.Native.Nat.{ℕ, _+_, _*_}
-use mathlib.Core.Bool.{Bool, true, false, not, _&&_, _||_}
+use Prim.Native.Nat.{ℕ, _+_, _*_, _<_, _≤_}
+use mathlib.Core.Bool.{Bool, true, false, not, _&&_, _||_, true≢false}
 use mathlib.Core.List.{List}
-use mathlib.Core.Path.{_≡_, refl, _∙_, ap}
+use mathlib.Core.Path.{_≡_, refl, sym, _∙_, ap}
 use native.Mathlib.Omega.{arith}
-use lib.Dec.{leb, eqb}
+use lib.Dec.{leb, ltb, eqb}
 use lib.ListN.{length, getD, set}
-use borrow.Author.Tests.{le-leb, eqb-true}
-use Rattle.loops.specs.Loops.{pick, count}
+use borrow.Author.Tests.{ltb-false, le-leb, eqb-true, eq-eqb}
+use Rattle.loops.specs.Loops.{pick, some, count}
 use Rattle.loops.specs.Choices.{either, and-0, and-no}
-use Rattle.loops.specs.Facts.{count-none}
+use Rattle.loops.specs.Facts.{all-of, some-in, some-at, count-same, count-none}
 use Rattle.loops.specs.Found.{found-by}
 use Rattle.loops.specs.declared.Found.the-variants.{Nothing}
+use Rattle.sector.specs.Bytes.{word}
 use Rattle.vdisk.specs.Drive.{placeOf, dirKindOf}
+use Rattle.vdisk.specs.Owner.{ownerOf}
 use Rattle.vdisk.specs.declared.drive.Place.{Place}
 use Rattle.vdisk.specs.declared.drive.Place.the-variants.{Boot, Fat, Root, Data, Outside}
 use Rattle.vdisk.specs.declared.drive.DirKind.{DirKind}
 use Rattle.vdisk.specs.declared.drive.DirKind.the-variants.{Kind, NoDir}
 use Rattle.vdisk.specs.declared.owner.Own.{Own}
 use Rattle.vdisk.specs.declared.owner.Own.the-variants.{Reserved, Fixed, Dyn, Free}
+use Rattle.file_table.specs.Table.{wholeColumns}
 use Rattle.records.specs.Records.{maxRecords, noRec}
 use Rattle.root_slots.specs.OrLaws.{or-none}
-use Rattle.state.specs.State.{noSt}
+use Rattle.state.specs.State.{maxPairs, pair0, noSt}
 use Rattle.state.specs.Setters.{withSt, withStaging, withHint, withStageT}
-use Rattle.state.specs.Pairs.{freePairs}
+use Rattle.state.specs.Pairs.{pairIdx, freePairs}
+use Rattle.state.specs.PairLaws.{pairIdx-lt}
+use Rattle.state.specs.LookupLaws.{pairIdx-is, pairIdx-none}
 use Rattle.state.specs.Staged.{slotOf, freeSlot}
 use Rattle.state.specs.declared.w.St.{St}
 use Rattle.state.specs.declared.w.W.{W}
 use Rattle.medium.specs.Medium.{isMedium, hasBlock, nextFree}
-use Rattle.clusters.specs.Clusters.{isLive}
-use Rattle.fat_sectors.specs.Fat.{FatWrite, clusterAt, valueAt, changedAt, ownerAt, zeroesFile, hostNumber, ownNumber, entryNumber, needsPair, fatNumber}
+use Rattle.clusters.specs.Clusters.{isNothing, isLive, hostOwn, hostCluster}
+use Rattle.fat_sectors.specs.Fat.{zeroedAt, zeroesFile, hostNumber, ownNumber, entryNumber, needsPair, fatNumber}
 use Rattle.fat_sectors.specs.Values.{fat1Passes, hostValue}
 use Rattle.staging.specs.Blocks.{heldFor}
 use Rattle.staging.specs.Staging.{Staged, slotFor, startStaging, putInto, intoBlock, withBlock, onMedium, inSlot, claimed, inFound, stage}
 use Rattle.judge.specs.Classify.{SectorWrite, Outcome, refused, unlessShown, bootPasses, boot, fatOf, fat, root, dir, dataNumber, otherData, ownerIn, stageOf, cluster, atPlace, classify}
 use Rattle.write.specs.Write.{Written, settled, unjudged, wholeSectors, tableFits, write}
 use Rattle.admits.specs.Bytes.{byteAsShown, onlyBytes}
-use Rattle.admits.specs.Admits.{isHost, asShown, bootAdmits, ownPasses, entryPasses, fatAdmits, rootByte, needsPlace, rootAdmits, dirAdmits}
-use Rattle.admits.specs.Admits.{isPlace, slotPlace, slotAs, slotBefore, asParked, needsBlock, takesNone, hintOf, slotAdmits, stageAdmits, clusterAdmits, placeAdmits, admits}
-use Rattle.admits.specs.ByteLaws.{all-same, or-comm, kept-is, shown-only, shown-slot}
+use Rattle.admits.specs.Admits.{isHost, asShown, bootAdmits, rootByte, needsPlace, rootAdmits, dirAdmits}
+use Rattle.admits.specs.Admits.{entryCluster, entryValue, entryDiffers, fat1Admits, valueAdmits, fileZeroed, ownAdmits, entryOwner, entryAdmits, hasPair, newPair, fatAdmits}
+use Rattle.admits.specs.Admits.{isPlace, slotPlace, slotAs, slotBefore, asParked, needsBlock, takesNone, hintOf, slotAdmits, stageAdmits, clusterAdmits, placeAdmits, wholeBoth, fewFiles, admits}
+use Rattle.admits.specs.ByteLaws.{all-same, or-comm, kept-is, shown-byte, shown-only, shown-slot}
 use Rattle.admits.specs.ZeroLaws.{zero-pick, pass-pick, go-on, first-zero}
 use Rattle.admits.specs.RootLaws.{root-pass}
 use Rattle.admits.specs.DirLaws.{dir-pass}
 
 -- FAT
-module _ (f : FatWrite) where
-  host-pass : (v : ℕ) → eqb (hostNumber v) 0 ≡ hostValue v
-  unfolding hostNumber
-  host-pass v = pass-pick (hostValue v) 6 refl
+module _ (x : SectorWrite) (w : W) (s : ℕ) where
+  host-pass : (v : ℕ) → eqb (hostNumber v) 0 ≡ valueAdmits v
+  unfolding hostNumber hostValue valueAdmits
+  host-pass v = pass-pick (valueAdmits v) 6 refl
 
-  own-pass : (i : ℕ) (o : Own) → eqb (ownNumber f i o) 0 ≡ ownPasses f i o
-  unfolding ownNumber ownPasses
+  own-pass : (i : ℕ) (o : Own) → eqb (ownNumber (fatOf x w s) i o) 0 ≡ ownAdmits x w s i o
+  unfolding ownNumber ownAdmits entryValue word zeroesFile zeroedAt fileZeroed
   own-pass i Reserved = refl
   own-pass i Fixed = refl
   own-pass i (Dyn j) =
-      zero-pick (isLive (f .ids) (f .pairs) j (clusterAt f i)) _ _ _ _ (pass-pick (eqb (valueAt f i) 0 && zeroesFile f j) 13 refl) (host-pass (valueAt f i))
-  own-pass i Free = host-pass (valueAt f i)
+      zero-pick (isLive (x .ids) (w .pair) j (entryCluster s i)) _ _ _ _
+      (pass-pick (eqb (entryValue (x .written) i) 0 && fileZeroed x s j) 13 refl) (host-pass (entryValue (x .written) i))
+  own-pass i Free = host-pass (entryValue (x .written) i)
 
-  pub entry-pass : (i : ℕ) → eqb (entryNumber f i) 0 ≡ entryPasses f i
-  unfolding entryNumber entryPasses
+  pub entry-pass : (i : ℕ) → eqb (entryNumber (fatOf x w s) i) 0 ≡ entryAdmits x w s i
+  unfolding entryNumber entryAdmits entryDiffers entryValue word fat1Passes fat1Admits
   entry-pass i =
-      zero-pick (changedAt f i) _ true _ 0
-      (zero-pick (eqb (clusterAt f i) 0) false _ 4 _ refl
-      (zero-pick (eqb (clusterAt f i) 1) _ _ _ _ (pass-pick (fat1Passes (valueAt f i)) 4 refl) (own-pass i (ownerAt f i))))
+      zero-pick (entryDiffers x i) _ true _ 0
+      (zero-pick (eqb (entryCluster s i) 0) false _ 4 _ refl
+      (zero-pick (eqb (entryCluster s i) 1) _ _ _ _ (pass-pick (fat1Admits (entryValue (x .written) i)) 4 refl) (own-pass i (entryOwner x w s i))))
       refl
 
-  pub fat-pass : eqb (fatNumber f) 0 ≡ fatAdmits f
-  unfolding fatNumber fatAdmits
-  fat-pass = first-zero (entryNumber f) (entryPasses f) 256 (freePairs (f .pairs)) (count (needsPair f) 256 0) 14 entry-pass refl
+  -- pairs
+  no-pair : (c : ℕ) → 2 ≤ c → isNothing (pairIdx (w .pair) c) ≡ not (hasPair (w .pair) c)
+  unfolding isNothing hasPair
+  no-pair c l =
+      found-by (pairIdx (w .pair) c)
+      (λ n e. rw (e, some-at here maxPairs 0 n (omega arith) (omega (arith, pairIdx-lt (w .pair) c n e)) (eq-eqb (getD (w .pair) n pair0 .c) c (pairIdx-is (w .pair) c n e .0))))
+      (λ e. rw (e, none e))
+    where
+      here : ℕ → Bool
+      here n = eqb (getD (w .pair) n pair0 .c) c
+
+      none : pairIdx (w .pair) c ≡ Nothing → some here maxPairs 0 ≡ false
+      none e =
+          either (some here maxPairs 0)
+          (λ t. some-in here maxPairs 0 t (λ n a b q. absurd (pairIdx-none (w .pair) c n e (λ z. omega arith) (omega arith) (eqb-true (getD (w .pair) n pair0 .c) c q))))
+          (λ t. t)
+
+  -- a cluster below 2 is Reserved
+  host-from-2 : (c : ℕ) → isHost x w c ≡ true → 2 ≤ c
+  unfolding hostCluster hostOwn ownerOf
+  host-from-2 c e =
+      either (ltb c 2)
+      (λ q. absurd (true≢false (sym e ∙ rw q)))
+      (λ q. ltb-false c 2 q)
+
+  pair-same : (i : ℕ) → needsPair (fatOf x w s) i ≡ newPair x w s i
+  unfolding needsPair newPair entryDiffers entryValue word hostCluster
+  pair-same i =
+      either (isHost x w (entryCluster s i))
+      (λ e. ap (λ (b : Bool). entryDiffers x i && isHost x w (entryCluster s i) && not (eqb (entryValue (x .written) i) 0) && b)
+      (no-pair (entryCluster s i) (host-from-2 (entryCluster s i) e)))
+      (λ e. rw e (rw (and-no (entryDiffers x i) false refl)))
+
+  pub fat-pass : eqb (fatNumber (fatOf x w s)) 0 ≡ fatAdmits x w s
+  unfolding fatNumber fatAdmits freePairs
+  fat-pass =
+      first-zero (entryNumber (fatOf x w s)) (entryAdmits x w s) 256 (freePairs (w .pair)) (count (needsPair (fatOf x w s)) 256 0) 14 entry-pass refl
+      ∙ rw (count-same (needsPair (fatOf x w s)) (newPair x w s) 256 0 (λ i l h. pair-same i))
 
 -- staging
-as-was : (w : W) → withSt w (w .st) ≡ w
+pub as-was : (w : W) → withSt w (w .st) ≡ w
 unfolding withSt
 as-was w = refl
 
@@ -78,7 +120,7 @@ module _ (x : SectorWrite) (w : W) (c s : ℕ) where
   abbrev isTaken : Staged → Bool
   isTaken r = eqb (r .number) 0
 
-  start-hint : (ss : List St) → startStaging (withSt w ss) .hint ≡ hintOf w
+  pub start-hint : (ss : List St) → startStaging (withSt w ss) .hint ≡ hintOf w
   unfolding startStaging withSt withStaging withHint withStageT
   start-hint ss = either (w .staging) (λ e. rw e) (λ e. rw e)
 
@@ -132,8 +174,8 @@ data-pass Fixed = refl
 data-pass (Dyn j) = refl
 data-pass Free = refl
 
-shown-long : (x : SectorWrite) → wholeSectors x ≡ true → length (x .shown) ≡ 512
-unfolding wholeSectors
+shown-long : (x : SectorWrite) → wholeBoth x ≡ true → length (x .shown) ≡ 512
+unfolding wholeBoth
 shown-long x e = eqb-true (length (x .shown)) 512 (and-0 (eqb (length (x .shown)) 512) (eqb (length (x .written)) 512) e)
 
 -- places
@@ -165,6 +207,23 @@ module _ (x : SectorWrite) (w : W) where
     unfolding bootAdmits
     boot-covers e = shown-only x long _ e
 
+    -- no entry differs
+    entry-shown : (i : ℕ) → i < 256 → asShown x ≡ true → entryDiffers x i ≡ false
+    unfolding entryDiffers entryValue byteAsShown
+    entry-shown i h e =
+        let a = eqb-true (getD (x .written) (i * 2) 0) (getD (x .shown) (i * 2) 0) (shown-byte x long (i * 2) (omega arith) e) in
+        let b = eqb-true (getD (x .written) (i * 2 + 1) 0) (getD (x .shown) (i * 2 + 1) 0) (shown-byte x long (i * 2 + 1) (omega arith) e) in
+        rw (a, b, eq-eqb (entryValue (x .shown) i) (entryValue (x .shown) i) refl)
+
+    fat-covers : (s : ℕ) → asShown x ≡ true → fatAdmits x w s ≡ true
+    unfolding fatAdmits entryAdmits newPair
+    fat-covers s e =
+        rw (
+          all-of (entryAdmits x w s) 256 0 (λ i l h. rw (entry-shown i h e)),
+          count-none (newPair x w s) 256 0 (λ i l h. rw (entry-shown i h e)),
+        )
+        (le-leb 0 (count (λ n. eqb (getD (w .pair) n pair0 .c) 0) maxPairs 0) (omega arith))
+
     root-covers : (s : ℕ) → asShown x ≡ true → rootAdmits x w s ≡ true
     unfolding rootAdmits needsPlace
     root-covers s e =
@@ -187,19 +246,28 @@ module _ (x : SectorWrite) (w : W) where
     place-pass : (p : Place) → eqb (atPlace x w p .number) 0 ≡ placeAdmits x w p
     unfolding atPlace placeAdmits fat root
     place-pass Boot = covered-pass (boot x w) (bootAdmits x) boot-pass boot-covers
-    place-pass (Fat s) = unless-pass (fat x w s) (fatAdmits (fatOf x w s)) (fat-pass (fatOf x w s))
+    place-pass (Fat s) = covered-pass (fat x w s) (fatAdmits x w s) (fat-pass x w s) (fat-covers s)
     place-pass (Root s) = covered-pass (root x w s) (rootAdmits x w s) (root-pass x w s) (root-covers s)
     place-pass (Data c s) = cluster-pass c s (dirKindOf c)
     place-pass Outside = refl
 
+  pub whole-same : wholeSectors x ≡ wholeBoth x
+  unfolding wholeSectors wholeBoth
+  whole-same = refl
+
+  pub fits-same : tableFits x w ≡ fewFiles x
+  unfolding tableFits wholeColumns fewFiles
+  fits-same = refl
+
   pub write-pass : eqb (write x w .number) 0 ≡ admits x w
   unfolding write admits classify
   write-pass =
-      either (wholeSectors x)
+      rw (whole-same, fits-same)
+      (either (wholeBoth x)
       (λ e. rw e
-      (unless-not (tableFits x w) _ (unjudged x w 10) _ refl
+      (unless-not (fewFiles x) _ (unjudged x w 10) _ refl
       (unless-not (w .rw) _ (settled x (refused x w 12)) _ refl (place-pass (shown-long x e) (placeOf (x .lba))))))
-      (λ e. rw e)
+      (λ e. rw e))
     where
       unless-not : (b t : Bool) (r q : Written) → eqb (r .number) 0 ≡ false → eqb (q .number) 0 ≡ t → eqb (pick (not b) r q .number) 0 ≡ (b && t)
       unless-not true t r q e f = f

@@ -1,5 +1,5 @@
--- Which sectors the rules of document 01 admit, place by place and without a number (document 01, "Judging a sector"). Boot, root and directory
--- sectors are judged here byte by byte, as the paper's sentences are; that the handlers' own tests say the same is proved in AdmitLaws.
+-- Which sectors the rules of document 01 admit, place by place and without a number (document 01, "Judging a sector"), in the paper's own numbers and
+-- byte by byte. That the handlers' own tests say the same is proved in AdmitLaws.
 use Prim.Native.Nat.{ℕ, _+_, _*_, _/_, _%_}
 use mathlib.Core.Bool.{Bool, true, false, not, _&&_, _||_}
 use mathlib.Core.List.{List}
@@ -11,30 +11,29 @@ use Rattle.loops.specs.declared.Found.the-variants.{At, Nothing}
 use Rattle.sector.specs.Bytes.{same, zeros}
 use Rattle.vdisk.specs.Drive.{placeOf, dirKindOf}
 use Rattle.vdisk.specs.Ids.{turned, kindOf}
+use Rattle.vdisk.specs.Owner.{ownerOf}
 use Rattle.vdisk.specs.declared.drive.Place.{Place}
 use Rattle.vdisk.specs.declared.drive.Place.the-variants.{Boot, Fat, Root, Data, Outside}
 use Rattle.vdisk.specs.declared.drive.DirKind.{DirKind}
 use Rattle.vdisk.specs.declared.drive.DirKind.the-variants.{Kind, NoDir}
 use Rattle.vdisk.specs.declared.owner.Own.{Own}
 use Rattle.vdisk.specs.declared.owner.Own.the-variants.{Reserved, Fixed, Dyn, Free}
+use Rattle.file_table.specs.Table.{maxFiles, inFile}
 use Rattle.records.specs.Records.{maxRecords, noRec}
 use Rattle.records.specs.declared.Rec.{Rec}
 use Rattle.names.specs.Names.{longName}
 use Rattle.housekeeping.specs.Housekeeping.{isHousekeeping}
-use Rattle.state.specs.State.{noSt}
-use Rattle.state.specs.Pairs.{freePairs}
+use Rattle.state.specs.State.{maxPairs, pair0, noSt}
 use Rattle.state.specs.Staged.{slotOf, freeSlot}
+use Rattle.state.specs.declared.w.Pair.{Pair}
 use Rattle.state.specs.declared.w.St.{St}
 use Rattle.state.specs.declared.w.W.{W}
 use Rattle.medium.specs.Medium.{isMedium, hasBlock, nextFree}
 use Rattle.medium.specs.Reads.{sectorOf}
 use Rattle.clusters.specs.Clusters.{isLive, hostCluster}
-use Rattle.fat_sectors.specs.Fat.{FatWrite, clusterAt, valueAt, changedAt, ownerAt, zeroesFile, needsPair}
-use Rattle.fat_sectors.specs.Values.{fat1Passes, hostValue}
 use Rattle.staging.specs.Blocks.{isParked, heldFor}
 use Rattle.staging.specs.Staging.{slotFor}
-use Rattle.judge.specs.Classify.{SectorWrite, fatOf}
-use Rattle.write.specs.Write.{wholeSectors, tableFits}
+use Rattle.judge.specs.Classify.{SectorWrite}
 use Rattle.admits.specs.Bytes.{onlyBytes, slotOfByte, placeInSlot, writtenSlot, slotAsShown, dateByte}
 
 -- a host cluster's sector is staged; elsewhere one equal to the shown one is accepted
@@ -48,25 +47,59 @@ asShown x = same (x .shown) (x .written)
 unfoldable pub bootAdmits : SectorWrite → Bool
 bootAdmits x = onlyBytes x (λ n. eqb n 0x25)
 
--- FAT: a Reserved or Fixed cluster's entry may not change; a live file's must become 0 with all its entries in this sector; others take a host
--- value
-unfoldable pub ownPasses : FatWrite → ℕ → Own → Bool
-ownPasses f i Reserved = false
-ownPasses f i Fixed = false
-ownPasses f i (Dyn j) =
-    pick (isLive (f .ids) (f .pairs) j (clusterAt f i)) (eqb (valueAt f i) 0 && zeroesFile f j) (hostValue (valueAt f i))
-ownPasses f i Free = hostValue (valueAt f i)
+-- FAT sector s: entry i is cluster s * 256 + i's, and has its value in two bytes, the low one first
+abbrev pub entryCluster : ℕ → ℕ → ℕ
+entryCluster s i = s * 256 + i
 
--- FAT[0] may not change, FAT[1] by its value
-unfoldable pub entryPasses : FatWrite → ℕ → Bool
-entryPasses f i =
-    pick (changedAt f i)
-    (pick (eqb (clusterAt f i) 0) false (pick (eqb (clusterAt f i) 1) (fat1Passes (valueAt f i)) (ownPasses f i (ownerAt f i))))
+unfoldable pub entryValue : List ℕ → ℕ → ℕ
+entryValue sector i = getD sector (i * 2) 0 + getD sector (i * 2 + 1) 0 * 256
+
+unfoldable pub entryDiffers : SectorWrite → ℕ → Bool
+entryDiffers x i = not (eqb (entryValue (x .shown) i) (entryValue (x .written) i))
+
+-- "FAT[1] changed passes only if its low 14 bits are all ones"; "0, 2 to 65,001, and 0xFFF8 up pass"
+unfoldable pub fat1Admits : ℕ → Bool
+fat1Admits v = eqb (v % 16384) 16383
+
+unfoldable pub valueAdmits : ℕ → Bool
+valueAdmits v = eqb v 0 || (leb 2 v && leb v 65001) || leb 0xFFF8 v
+
+-- "all its entries in this sector" are written 0
+unfoldable pub fileZeroed : SectorWrite → ℕ → ℕ → Bool
+fileZeroed x s j = all (λ i. not (inFile (x .starts) (x .sizes) j (entryCluster s i)) || eqb (entryValue (x .written) i) 0) 256 0
+
+-- a Reserved or Fixed cluster's entry may not change; "a live file's changed entry must become 0 with all its entries in this sector"; others take
+-- a host value
+unfoldable pub ownAdmits : SectorWrite → W → ℕ → ℕ → Own → Bool
+ownAdmits x w s i Reserved = false
+ownAdmits x w s i Fixed = false
+ownAdmits x w s i (Dyn j) =
+    pick (isLive (x .ids) (w .pair) j (entryCluster s i)) (eqb (entryValue (x .written) i) 0 && fileZeroed x s j) (valueAdmits (entryValue (x .written) i))
+ownAdmits x w s i Free = valueAdmits (entryValue (x .written) i)
+
+abbrev pub entryOwner : SectorWrite → W → ℕ → ℕ → Own
+entryOwner x w s i = ownerOf (x .starts) (x .sizes) (w .first) (entryCluster s i)
+
+-- "FAT[0] changed: refused"
+unfoldable pub entryAdmits : SectorWrite → W → ℕ → ℕ → Bool
+entryAdmits x w s i =
+    pick (entryDiffers x i)
+    (pick (eqb (entryCluster s i) 0) false
+    (pick (eqb (entryCluster s i) 1) (fat1Admits (entryValue (x .written) i)) (ownAdmits x w s i (entryOwner x w s i))))
     true
 
--- and there is a place for every new pair
-unfoldable pub fatAdmits : FatWrite → Bool
-fatAdmits f = all (entryPasses f) 256 0 && leb (count (needsPair f) 256 0) (freePairs (f .pairs))
+-- a host cluster's changed entry that gets a value and has no pair needs a place; "of 40 pair places, those freed by the same sector aren't
+-- counted as free"
+unfoldable pub hasPair : List Pair → ℕ → Bool
+hasPair ps c = some (λ n. eqb (getD ps n pair0 .c) c) maxPairs 0
+
+unfoldable pub newPair : SectorWrite → W → ℕ → ℕ → Bool
+newPair x w s i =
+    entryDiffers x i && isHost x w (entryCluster s i) && not (eqb (entryValue (x .written) i) 0) && not (hasPair (w .pair) (entryCluster s i))
+
+unfoldable pub fatAdmits : SectorWrite → W → ℕ → Bool
+fatAdmits x w s =
+    all (entryAdmits x w s) 256 0 && leb (count (newPair x w s) 256 0) (count (λ n. eqb (getD (w .pair) n pair0 .c) 0) maxPairs 0)
 
 -- Root: "DM40*.BIN", in letters of either case
 unfoldable pub letter : List ℕ → ℕ → ℕ → Bool
@@ -191,11 +224,19 @@ clusterAdmits x w c s NoDir = pick (isHost x w c) (stageAdmits x w c s) (asShown
 
 unfoldable pub placeAdmits : SectorWrite → W → Place → Bool
 placeAdmits x w Boot = bootAdmits x
-placeAdmits x w (Fat s) = asShown x || fatAdmits (fatOf x w s)
+placeAdmits x w (Fat s) = fatAdmits x w s
 placeAdmits x w (Root s) = rootAdmits x w s
 placeAdmits x w (Data c s) = clusterAdmits x w c s (dirKindOf c)
 placeAdmits x w Outside = false
 
--- both sectors have 512 bytes, the table fits, writing is on, and the place admits it
+-- both sectors have 512 bytes; up to 400 files, with columns of one length, which those of a lent table are; writing is on; and the place admits it
+unfoldable pub wholeBoth : SectorWrite → Bool
+wholeBoth x = eqb (length (x .shown)) 512 && eqb (length (x .written)) 512
+
+unfoldable pub fewFiles : SectorWrite → Bool
+fewFiles x =
+    leb (length (x .ids)) maxFiles
+    && (eqb (length (x .slots)) (length (x .ids)) && eqb (length (x .starts)) (length (x .ids)) && eqb (length (x .sizes)) (length (x .ids)))
+
 unfoldable pub admits : SectorWrite → W → Bool
-admits x w = wholeSectors x && (tableFits x w && (w .rw && placeAdmits x w (placeOf (x .lba))))
+admits x w = wholeBoth x && (fewFiles x && (w .rw && placeAdmits x w (placeOf (x .lba))))

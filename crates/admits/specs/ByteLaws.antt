@@ -3,13 +3,13 @@ use Prim.Native.Nat.{ℕ, zero, suc, _+_, _*_, _/_, _%_, _<_, _≤_}
 use mathlib.Core.Bool.{Bool, true, false, not, _&&_, _||_, true≢false}
 use mathlib.Core.Path.{_≡_, refl, sym, _∙_}
 use native.Mathlib.Omega.{arith}
-use lib.Dec.{eqb}
+use lib.Dec.{ltb, eqb}
 use lib.ListN.{length, getD, drop}
 use lib.Seq.{getD-take, getD-drop}
-use borrow.Author.Tests.{eqb-true, eq-eqb}
-use Rattle.loops.specs.Loops.{all}
+use borrow.Author.Tests.{ltb-true, ltb-false, eqb-true, eq-eqb, not-true, not-false}
+use Rattle.loops.specs.Loops.{all, first}
 use Rattle.loops.specs.Choices.{either, same-if, or-l, or-r}
-use Rattle.loops.specs.Facts.{all-at, all-of}
+use Rattle.loops.specs.Facts.{all-at, all-of, first-at, first-le, first-below}
 use Rattle.sector.specs.Bytes.{same, sameAt}
 use Rattle.slots.specs.Slots.{isDate, sameSlot, dateAt, datesOnly}
 use Rattle.root_slots.specs.OrLaws.{or-none}
@@ -50,6 +50,40 @@ by-slots p =
   where
     slots : ℕ → Bool
     slots i = all (λ b. p (i * 32 + b)) 32 0
+
+-- the first that is so
+first-is : (p : ℕ → Bool) (m k : ℕ) → k ≤ m → ((j : ℕ) → j < k → p j ≡ false) → (k < m → p k ≡ true) → first p m 0 ≡ k
+first-is p m k l f g =
+    either (ltb (first p m 0) k)
+    (λ q. let h = ltb-true (first p m 0) k q in
+    absurd (true≢false (sym (first-at p m 0 (omega arith)) ∙ f (first p m 0) h)))
+    (λ q. either (ltb k (first p m 0))
+    (λ r. let h = ltb-true k (first p m 0) r in
+    absurd (true≢false (sym (g (omega (arith, first-le p m 0))) ∙ first-below p m 0 k (omega arith) h)))
+    (λ r. omega (arith, ltb-false (first p m 0) k q, ltb-false k (first p m 0) r)))
+
+-- the first byte that isn't so lies in the first slot that has one
+pub first-slot : (p : ℕ → Bool) → first (λ i. not (all (λ b. p (i * 32 + b)) 32 0)) 16 0 ≡ slotOfByte (first (λ n. not (p n)) 512 0)
+first-slot p =
+    first-is (λ i. not (slots i)) 16 (at / 32) (omega (arith, first-le bad 512 0))
+    (λ i h. rw (all-of (λ b. p (i * 32 + b)) 32 0 (λ b l m. not-false (p (i * 32 + b)) (first-below bad 512 0 (i * 32 + b) (omega arith) (omega arith)))))
+    (λ h. rw (fails (omega arith)))
+  where
+    bad : ℕ → Bool
+    bad n = not (p n)
+
+    at : ℕ
+    at = first bad 512 0
+
+    slots : ℕ → Bool
+    slots i = all (λ b. p (i * 32 + b)) 32 0
+
+    fails : at < 512 → slots (at / 32) ≡ false
+    fails h =
+        let q : at / 32 * 32 + at % 32 ≡ at = omega arith in
+        let b : p (at / 32 * 32 + at % 32) ≡ false = rw q (not-true (p at) (first-at bad 512 0 (omega arith))) in
+        either (slots (at / 32))
+        (λ t. absurd (true≢false (sym (all-at (λ b. p (at / 32 * 32 + b)) 32 0 (at % 32) t (omega arith) (omega arith)) ∙ b))) (λ t. t)
 
 -- the dates: byte by byte of a slot, computed
 abbrev same-bool : Bool → Bool → Bool
@@ -113,14 +147,17 @@ module _ (x : SectorWrite) where
     unfolding same
     shown-kept = rw long (all-same (sameAt (x .shown) (x .written)) (byteAsShown x) 512 0 (λ n l h. sym (kept-is n)))
 
+    pub shown-byte : (n : ℕ) → n < 512 → same (x .shown) (x .written) ≡ true → byteAsShown x n ≡ true
+    shown-byte n h e = all-at (byteAsShown x) 512 0 n (sym shown-kept ∙ e) (omega arith) (omega arith)
+
     pub shown-only : (may : ℕ → Bool) → same (x .shown) (x .written) ≡ true → onlyBytes x may ≡ true
     unfolding onlyBytes
     shown-only may e =
         all-of (λ n. byteAsShown x n || may n) 512 0
-        (λ n l h. or-l (byteAsShown x n) (may n) (all-at (byteAsShown x) 512 0 n (sym shown-kept ∙ e) l h))
+        (λ n l h. or-l (byteAsShown x n) (may n) (shown-byte n h e))
 
     pub shown-slot : (i : ℕ) → i < 16 → same (x .shown) (x .written) ≡ true → slotAsShown x i ≡ true
     unfolding slotAsShown
     shown-slot i h e =
         all-of (λ b. byteAsShown x (i * 32 + b)) 32 0
-        (λ b l m. all-at (byteAsShown x) 512 0 (i * 32 + b) (sym shown-kept ∙ e) (omega arith) (omega arith))
+        (λ b l m. shown-byte (i * 32 + b) (omega arith) e)

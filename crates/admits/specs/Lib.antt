@@ -1,8 +1,10 @@
--- Which sectors the rules admit, and that these are the ones that are taken.
+-- Which sectors the rules admit and with which number they refuse the others, and that `write` does so.
 pub mod Bytes
 pub mod Admits
+pub mod Refusals
 pub mod ByteLaws
 pub mod ZeroLaws
 pub mod RootLaws
 pub mod DirLaws
 pub mod AdmitLaws
+pub mod RefusalLaws

@@ -164,7 +164,7 @@ module _ (x : SectorWrite) (w : W) (s : ℕ) where
       (sym (entry-same (writtenSlot x i) (x .written) (i * 32) b (isHost x w (startOf (x .written) (i * 32))) (isHousekeeping (longName (w .rec) (x .written) (s * 16) (s * 16 + i)))))
 
   -- the bytes of slot i may differ as they do
-  unfoldable slotBytes : ℕ → Bool
+  unfoldable pub slotBytes : ℕ → Bool
   slotBytes i = all (λ b. byteAsShown x (i * 32 + b) || rootByte x w s (i * 32 + b)) 32 0
 
   slot-bytes : (i : ℕ) → slotBytes i ≡ pick (leb (s * 16 + i) 6) (slotDates x i) (slotAsShown x i || hostSlotAdmits x w s i)
@@ -175,7 +175,7 @@ module _ (x : SectorWrite) (w : W) (s : ℕ) where
       (λ b l h. rw (slot-is i b (omega arith), byte-is i b (omega arith)))
       ∙ either (leb (s * 16 + i) 6) (λ e. rw e) (λ e. rw e (all-or (λ b. byteAsShown x (i * 32 + b)) (hostSlotAdmits x w s i) 32 0))
 
-  slot-pass : (i : ℕ) → eqb (slotNumber (rootOf x w s) i) 0 ≡ slotBytes i
+  pub slot-pass : (i : ℕ) → eqb (slotNumber (rootOf x w s) i) 0 ≡ slotBytes i
   unfolding slotNumber
   slot-pass i =
       rw (slot-bytes i, ← kept-slot x i, ← dates-slot x i, host-slot i)

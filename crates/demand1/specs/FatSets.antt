@@ -4,12 +4,12 @@ use mathlib.Core.Bool.{Bool, true, false, not, _&&_, true≢false}
 use mathlib.Core.List.{List}
 use mathlib.Core.Path.{_≡_, refl, sym, _∙_, ap}
 use native.Mathlib.Omega.{arith}
-use lib.Dec.{leb, eqb}
+use lib.Dec.{ltb, eqb}
 use lib.ListN.{length}
-use borrow.Author.Tests.{eqb-true, eqb-false, eq-eqb, ne-eqb, leb-true, not-true}
-use Rattle.loops.specs.Loops.{pick, all, some, count, fold}
-use Rattle.loops.specs.Choices.{either, and-0, and-1, and-of}
-use Rattle.loops.specs.Facts.{all-at, some-at}
+use borrow.Author.Tests.{eqb-true, eqb-false, eq-eqb, ne-eqb, ltb-true, ltb-false, not-true, not-false}
+use Rattle.loops.specs.Loops.{pick, first, count, fold}
+use Rattle.loops.specs.Choices.{either, picked, and-0, and-1, and-of}
+use Rattle.loops.specs.Facts.{some-at, first-at, first-below}
 use Rattle.loops.specs.Found.{found-by}
 use Rattle.loops.specs.Marks.{isAt, pickedBy}
 use Rattle.vdisk.specs.declared.owner.Own.{Own}
@@ -25,10 +25,8 @@ use Rattle.state.specs.declared.w.W.{W}
 use Rattle.state.specs.declared.pairs.PairOf.{PairOf}
 use Rattle.state.specs.declared.pairs.PairOf.the-variants.{Value, NoPair}
 use Rattle.clusters.specs.Clusters.{isNothing, isLive, hostOwn}
-use Rattle.fat_sectors.specs.Fat.{FatWrite, clusterAt, valueAt, changedAt, ownerAt, ownNumber, entryNumber, needsPair, fatNumber, freedOwn, freedBy, freesRow, freedOwner, applyAt, fatState}
+use Rattle.fat_sectors.specs.Fat.{FatWrite, clusterAt, valueAt, changedAt, ownerAt, ownNumber, entryNumber, refusedAt, needsPair, fatNumber, freedOwn, freedBy, freesRow, freedOwner, applyAt, fatState}
 use Rattle.judge.specs.Classify.{SectorWrite, fatOf, fat}
-use Rattle.admits.specs.Admits.{entryPasses, fatAdmits}
-use Rattle.admits.specs.AdmitLaws.{entry-pass, fat-pass}
 use Rattle.demand1.specs.Sound.{Sound}
 use Rattle.demand1.specs.Changes.{setsPair, pairAs, FatOnly}
 use Rattle.demand1.specs.Room.{fold-does}
@@ -155,25 +153,26 @@ module _ (w : W) (f : FatWrite) (passes : (i : ℕ) → i < 256 → entryNumber 
       rw t (omega arith))))
 
 module _ (x : SectorWrite) (w : W) (s : ℕ) (taken : fat x w s .number ≡ 0) where
-  admitted : fatAdmits (fatOf x w s) ≡ true
-  unfolding fat
-  admitted = sym (fat-pass (fatOf x w s)) ∙ eq-eqb (fatNumber (fatOf x w s)) 0 taken
+  -- no entry is refused, and the places are there
+  passed : {R : Type 0} → (ltb (first (refusedAt (fatOf x w s)) 256 0) 256 ≡ false → count (needsPair (fatOf x w s)) 256 0 ≤ freePairs (w .pair) → R) → R
+  unfolding fat fatNumber
+  passed f =
+      let g = fatOf x w s in
+      let i = first (refusedAt g) 256 0 in
+      picked (ltb i 256) (entryNumber g i) _ 0 taken
+      (λ q n. absurd (true≢false (sym (first-at (refusedAt g) 256 0 (ltb-true i 256 q)) ∙ ap not (eq-eqb (entryNumber g i) 0 n))))
+      (λ q n. picked (ltb (freePairs (w .pair)) (count (needsPair g) 256 0)) 14 0 0 n (λ t z. absurd (omega arith))
+      (λ t z. f q (ltb-false (freePairs (w .pair)) (count (needsPair g) 256 0) t)))
 
   all-pass : (i : ℕ) → i < 256 → entryNumber (fatOf x w s) i ≡ 0
-  unfolding fatAdmits
   all-pass i l =
-      let f = fatOf x w s in
-      eqb-true (entryNumber f i) 0
-      (entry-pass f i
-      ∙ all-at (entryPasses f) 256 0 i
-      (and-0 (all (entryPasses f) 256 0) (leb (count (needsPair f) 256 0) (freePairs (w .pair))) admitted) (omega arith) (omega arith))
+      let g = fatOf x w s in
+      passed (λ q n. eqb-true (entryNumber g i) 0 (not-false (eqb (entryNumber g i) 0)
+      (first-below (refusedAt g) 256 0 i (omega arith) (let z = ltb-false (first (refusedAt g) 256 0) 256 q in omega arith))))
 
   fits : count (needs w (fatOf x w s) all-pass w) 256 0 ≤ freePairs (w .pair)
-  unfolding fatAdmits needsPair
-  fits =
-      let f = fatOf x w s in
-      leb-true (count (needsPair f) 256 0) (freePairs (w .pair))
-      (and-1 (all (entryPasses f) 256 0) (leb (count (needsPair f) 256 0) (freePairs (w .pair))) admitted)
+  unfolding needsPair
+  fits = passed (λ q n. n)
 
   sets-as : Sound w → (i : ℕ) → i < 256 → setsPair (fatOf x w s) i ≡ true
       → pairOf (fold (applyAt (fatOf x w s)) 256 0 w .pair) (clusterAt (fatOf x w s) i) ≡ pairAs (valueAt (fatOf x w s) i)

@@ -1,21 +1,24 @@
 -- Demand 1 holds along every list of calls: every call leaves a sound state sound.
 use Prim.Native.Nat.{ℕ}
 use mathlib.Core.List.{List, [], _∷_}
-use mathlib.Core.Path.{_≡_, refl}
-use mathlib.Core.Bool.{Bool, true, false, _&&_}
+use mathlib.Core.Path.{_≡_, refl, _∙_}
+use mathlib.Core.Bool.{Bool, true, false}
 use lib.Dec.{eqb}
 use borrow.Author.Tests.{eqb-true, eqb-false}
-use Rattle.loops.specs.Choices.{either}
-use Rattle.file_table.specs.Table.{Table, accepts}
+use Rattle.loops.specs.Loops.{pick}
+use Rattle.loops.specs.Choices.{either, pick-has}
+use Rattle.file_table.specs.Table.{Table}
 use Rattle.state.specs.State.{initial}
-use Rattle.state.specs.Setters.{withBoot, withFat1, withRec, withPair, withSt}
+use Rattle.state.specs.Setters.{withRw, withWantRw, withBoot, withFat1, withRec, withPair, withSt, withLocks, withNowMs, withEndAt}
 use Rattle.state.specs.declared.w.W.{W}
-use Rattle.release.specs.Release.{Lending, Ended, emptied}
-use Rattle.sessions.specs.Sessions.{start}
+use Rattle.release.specs.Undecided.{isUndecided}
+use Rattle.release.specs.Release.{Lending, Ended, emptied, fits}
+use Rattle.sessions.specs.Poll.{endDue, isQuiet}
+use Rattle.sessions.specs.Sessions.{modeReset, setReadOnly as readOnlySet, start}
 use Rattle.demand1.specs.Sound.{Sound}
 use Rattle.demand1.specs.Soundness.{sound-initial, sound-as}
 use Rattle.demand1.specs.Theorem.{demand1}
-use Rattle.demand1_sessions.specs.Demand1.{Stays, MayEnd, Starts}
+use Rattle.demand1_sessions.specs.Ends.{MayEnd, clockSet, tickEnds}
 use Rattle.demand1_sessions.specs.Theorem.{demand-1-calls}
 use Rattle.demand3.specs.Step.{Session, Call, write, poll, release, releaseAll, busReset, resetMode, setReadOnly, report, refusedStart, sectorOf, lent, step}
 use Rattle.demand3.specs.History.{History, event, next, run, begun}
@@ -38,15 +41,40 @@ sound-emptied : (w : W) → Sound (emptied w)
 unfolding emptied initial withBoot withFat1 withRec withPair withSt
 sound-emptied w = sound-as (emptied w) (initial 0) refl refl refl (sound-initial 0)
 
-sound-stays : (w v : W) → Stays w v → Sound w → Sound v
-sound-stays w v s h = sound-as v w (s .pair) (s .rec) (s .st) h
+sound-end-at : (w : W) (n : ℕ) → Sound w → Sound (withEndAt w n)
+unfolding withEndAt
+sound-end-at w n h = sound-as (withEndAt w n) w refl refl refl h
 
--- what may end the session leaves the arrays as they were, or empty
-sound-ends : (x : Lending) (w : W) (e : Ended) → MayEnd x w e → Sound w → Sound (e .w)
-sound-ends x w e m h =
-    either (eqb (e .ended) 1)
-    (λ q. rw (m .released (eqb-true (e .ended) 1 q) .0) (sound-emptied (e .w)))
-    (λ q. sound-stays w (e .w) (m .kept (eqb-false (e .ended) 1 q) .0) h)
+sound-clock : (w : W) (clock : ℕ) (mounted : Bool) → Sound w → Sound (clockSet w clock mounted)
+unfolding withLocks withNowMs
+sound-clock w clock mounted h = sound-as (clockSet w clock mounted) w refl refl refl h
+
+-- no release is due, one runs, or it is put off
+data How : ℕ → Type 0 where
+  none : How 0
+  runs : How 1
+  off : How 2
+
+how-by : {R : Type 0} {n : ℕ} → How n → (n ≡ 0 → R) → (n ≡ 1 → R) → (n ≡ 2 → R) → R
+how-by none f g h = f refl
+how-by runs f g h = g refl
+how-by off f g h = h refl
+
+how-tick : (t : W) (mounted : Bool) → How (tickEnds t mounted)
+unfolding tickEnds
+how-tick t mounted =
+    pick-has How (endDue t) _ _ (pick-has How mounted 0 1 none runs) (pick-has How (isQuiet t mounted) _ 0 (pick-has How (isUndecided t) 2 1 off runs) none)
+
+-- a call that may end the session leaves the arrays as they were, or empty
+sound-ends : (x : Lending) (w t still : W) (reset mode : Bool) (how : ℕ) (e : Ended) → MayEnd x w t still reset mode how e → How how
+    → Sound w → Sound t → Sound still → Sound (e .w)
+sound-ends x w t still reset mode how e m by a b c =
+    either (fits x)
+    (λ f. how-by by
+    (λ h. rw (m .idle f h .state) c)
+    (λ h. rw (m .ran f h .empty) (sound-emptied (e .w)))
+    (λ h. rw (m .put-off f h .state) (sound-end-at t _ b)))
+    (λ f. rw (m .refused (eqb-false (e .number) 0 (m .admitted ∙ f)) .state) a)
 
 -- a start that takes its table leaves the first state, any other the one that was there
 sound-start : (t : Table) (w : W) → Sound w → Sound (start t w .w)
@@ -57,14 +85,18 @@ sound-start t w h =
     (λ q. rw (s .refused (eqb-false (start t w .number) 0 q) .1) h)
 
 pub sound-step : (t : Table) (c : Call) (s : Session) → Sound (s .w) → Sound (step t c s .after .w)
-unfolding step
+unfolding step modeReset readOnlySet withRw withWantRw
 sound-step t (write x busy m) s h = demand1 (sectorOf t s x busy m) (s .w) .sound h
-sound-step t (poll clock mounted m) s h = sound-ends (lent t s m) (s .w) _ (demand-1-calls .poll (lent t s m) (s .w) clock mounted) h
-sound-step t (release m) s h = sound-ends (lent t s m) (s .w) _ (demand-1-calls .release (lent t s m) (s .w)) h
-sound-step t (releaseAll reset m) s h = sound-ends (lent t s m) (s .w) _ (demand-1-calls .release-all (lent t s m) (s .w) reset) h
-sound-step t (busReset m) s h = sound-ends (lent t s m) (s .w) _ (demand-1-calls .bus-reset (lent t s m) (s .w)) h
-sound-step t resetMode s h = sound-stays (s .w) _ (demand-1-calls .mode-reset (s .w)) h
-sound-step t (setReadOnly on) s h = sound-stays (s .w) _ (demand-1-calls .set-read-only (s .w) on) h
+sound-step t (poll clock mounted m) s h =
+    let v = clockSet (s .w) clock mounted in
+    let k = sound-clock (s .w) clock mounted h in
+    sound-ends _ _ _ _ _ _ _ _ (demand-1-calls .poll (lent t s m) (s .w) clock mounted) (how-tick v mounted) h k
+    (pick-has Sound (endDue v) (withEndAt v 0) v (sound-end-at v 0 k) k)
+sound-step t (release m) s h = sound-ends _ _ _ _ _ _ _ _ (demand-1-calls .release (lent t s m) (s .w)) (pick-has How (isUndecided (s .w)) 2 1 off runs) h h h
+sound-step t (releaseAll reset m) s h = sound-ends _ _ _ _ _ _ _ _ (demand-1-calls .release-all (lent t s m) (s .w) reset) runs h h h
+sound-step t (busReset m) s h = sound-ends _ _ _ _ _ _ _ _ (demand-1-calls .bus-reset (lent t s m) (s .w)) runs h h h
+sound-step t resetMode s h = sound-as _ (s .w) refl refl refl h
+sound-step t (setReadOnly on) s h = sound-as _ (s .w) refl refl refl h
 sound-step t (report j) s h = h
 sound-step t (refusedStart other e) s h = sound-start other (s .w) h
 
@@ -76,4 +108,5 @@ sound-run t (c ∷ cs) h s = sound-run t cs (next t h c) (sound-step t c (h .ses
 pub demand-1 : (t : Table) (cs : List Call) → Along t (run t (begun t) cs .session)
 demand-1 t cs =
     let s = run t (begun t) cs .session in
-    record { sound = sound-run t cs (begun t) (sound-initial (t .first)); does = does t s }
+    let h = sound-run t cs (begun t) (sound-initial (t .first)) in
+    record { sound = h; does = does t s; starts = λ other. (demand-1-calls .starts other (s .w), sound-start other (s .w) h) }

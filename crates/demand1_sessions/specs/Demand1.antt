@@ -3,56 +3,36 @@
 -- marks, FAT[1] and the boot byte as before"; and what a call changes that is not turned down. `Demand1Calls`, at the end, claims them of all
 -- the calls; `demand-1-calls` in Theorem proves it.
 use Prim.Native.Nat.{ℕ, _<_}
-use mathlib.Core.Bool.{Bool, true, false, not, _||_}
+use mathlib.Core.Bool.{Bool, true, false, not, _&&_}
 use mathlib.Core.List.{List}
 use mathlib.Core.Path.{_≡_}
-use lib.Dec.{eqb}
+use lib.Dec.{leb, ltb, eqb}
 use lib.ListN.{length, getD, set}
+use Rattle.loops.specs.Loops.{pick}
 use Rattle.bits.specs.Bit.{setBit}
 use Rattle.vdisk.specs.Ids.{handed}
-use Rattle.file_table.specs.Table.{Table, accepts}
+use Rattle.file_table.specs.Table.{Table, maxFiles, accepts}
 use Rattle.records.specs.declared.Rec.{Rec}
 use Rattle.root_slots.specs.RootSlots.{strictOf}
 use Rattle.root_slots.specs.declared.Strict.{Strict}
 use Rattle.state.specs.State.{initial}
+use Rattle.state.specs.Setters.{withRw, withWantRw, withEndAt}
 use Rattle.state.specs.declared.w.Pair.{Pair}
 use Rattle.state.specs.declared.w.St.{St}
 use Rattle.state.specs.declared.w.W.{W}
 use Rattle.medium.specs.Reads.{stagedAnswer, stagedBytes}
-use Rattle.release.specs.Release.{Lending, Ended, emptied, releasedIds, fits, releaseAllCall, releaseCall}
-use Rattle.sessions.specs.Poll.{pollCall}
+use Rattle.chains.specs.Chains.{completeOf}
+use Rattle.release.specs.Undecided.{isUndecided}
+use Rattle.release.specs.Release.{Lending, releaseAllCall, releaseCall}
+use Rattle.sessions.specs.Poll.{endDue, pollCall}
 use Rattle.sessions.specs.Sessions.{setReadOnly, modeReset, busResetCall, Reported, reportGone, Started, start}
 use Rattle.body.specs.Body.{bodyOf}
+use Rattle.demand1_sessions.specs.Ends.{MayEnd, clockSet, tickEnds}
 
--- what stays where nothing was released: pairs, records, FAT[1], the boot byte, and what is staged
-pub record Stays (w v : W) : Type 0 where
-  pub pair : v .pair ≡ w .pair
-  pub rec : v .rec ≡ w .rec
-  pub fat1 : v .fat1 ≡ w .fat1
-  pub boot : v .boot ≡ w .boot
-  pub st : v .st ≡ w .st
-
--- turned down: 10, no release, the state and the marks as before
-pub record TurnedDown (x : Lending) (w : W) (e : Ended) : Type 0 where
-  pub number : e .number ≡ 10
-  pub ended : e .ended ≡ 0
-  pub had : e .had ≡ false
-  pub state : e .w ≡ w
-  pub ids : e .ids ≡ x .ids
-
--- a tick, a release, a bus reset
-pub record MayEnd (x : Lending) (w : W) (e : Ended) : Type 0 where
-  -- taken with up to 400 files, whose columns have one length, and only then
-  pub admitted : eqb (e .number) 0 ≡ fits x
-  pub refused : (e .number ≡ 0 → ⊥) → TurnedDown x w e
-  -- no release ran to its end: marks too stay
-  pub kept : (e .ended ≡ 1 → ⊥) → Stays w (e .w) × (e .ids ≡ x .ids)
-  -- one did: nothing of these stays, and the marks are what the release leaves of them
-  pub released : e .ended ≡ 1 → (e .w ≡ emptied (e .w)) × (e .ids ≡ releasedIds x (w .st))
-
--- report gone of a row: 21 or 10 leave the marks; taken, the file was handed, and the one mark is set
+-- report gone of a row: 10 for more than 400 files, 21 for a row that isn't in the table or whose file isn't handed, which leave the marks; taken, the
+-- file was handed, and the one mark is set
 pub record Reports (ids : List ℕ) (j : ℕ) (r : Reported) : Type 0 where
-  pub listed : (eqb (r .number) 0 || eqb (r .number) 10 || eqb (r .number) 21) ≡ true
+  pub number : r .number ≡ pick (leb (length ids) maxFiles) (pick (ltb j (length ids) && handed (getD ids j 0)) 0 21) 10
   pub refused : (r .number ≡ 0 → ⊥) → r .ids ≡ ids
   pub taken : r .number ≡ 0 → (j < length ids) × (handed (getD ids j 0) ≡ true) × (r .ids ≡ set ids j (setBit (getD ids j 0) 14))
 
@@ -62,22 +42,26 @@ pub record Starts (t : Table) (w : W) (r : Started) : Type 0 where
   pub refused : (r .number ≡ 0 → ⊥) → (r .number ≡ 10) × (r .w ≡ w)
   pub taken : r .number ≡ 0 → r .w ≡ initial (t .first)
 
--- the calls that only read answer a listed number, and nothing but it where they refuse
+-- the calls that only read answer the number that is listed for what they turn down, and nothing but it then
 pub record Reads (fat area : List ℕ) (ps : List Pair) (recs : List Rec) (st : List St) (c s : ℕ) (out d : List ℕ) (slot size : ℕ) : Type 0 where
-  pub staged : (eqb (stagedAnswer st c s out .no) 0 || eqb (stagedAnswer st c s out .no) 1 || eqb (stagedAnswer st c s out .no) 2) ≡ true
+  pub staged : stagedAnswer st c s out .no ≡ pick (not (eqb (length out) 512)) 1 (pick (leb 64 s) 2 0)
   pub unread : (stagedAnswer st c s out .no ≡ 0 → ⊥) → (stagedAnswer st c s out .staged ≡ false) × (stagedBytes fat area st c s out ≡ out)
-  pub strict : (eqb (strictOf recs d slot .no) 0 || eqb (strictOf recs d slot .no) 1 || eqb (strictOf recs d slot .no) 2 || eqb (strictOf recs d slot .no) 7) ≡ true
+  pub strict : strictOf recs d slot .no ≡ pick (not (eqb (length d) 512)) 1 (pick (leb 512 slot) 2 (pick (leb slot 6) 7 0))
   pub unnamed : (strictOf recs d slot .no ≡ 0 → ⊥) → strictOf recs d slot .housekeeping ≡ false
-  pub body : (eqb (bodyOf fat area ps st c size .no) 0 || eqb (bodyOf fat area ps st c size .no) 11 || eqb (bodyOf fat area ps st c size .no) 20) ≡ true
+  pub body : bodyOf fat area ps st c size .no ≡ pick (ltb size 128) 11 (pick (completeOf ps st c size .found) 0 20)
   pub unchecked : (bodyOf fat area ps st c size .no ≡ 0 → ⊥) → bodyOf fat area ps st c size .valid ≡ false
 
 pub record Demand1Calls : Type 0 where
-  pub poll : (x : Lending) (w : W) (clock : ℕ) (mounted : Bool) → MayEnd x w (pollCall x w clock mounted)
-  pub release : (x : Lending) (w : W) → MayEnd x w (releaseCall x w)
-  pub release-all : (x : Lending) (w : W) (reset : Bool) → MayEnd x w (releaseAllCall x w reset)
-  pub bus-reset : (x : Lending) (w : W) → MayEnd x w (busResetCall x w)
-  pub mode-reset : (w : W) → Stays w (modeReset w)
-  pub set-read-only : (w : W) (on : Bool) → Stays w (setReadOnly w on)
+  pub poll : (x : Lending) (w : W) (clock : ℕ) (mounted : Bool)
+      → MayEnd x w (clockSet w clock mounted)
+      (pick (endDue (clockSet w clock mounted)) (withEndAt (clockSet w clock mounted) 0) (clockSet w clock mounted))
+      false (w .rw) (tickEnds (clockSet w clock mounted) mounted) (pollCall x w clock mounted)
+  pub release : (x : Lending) (w : W) → MayEnd x w w w false (w .rw) (pick (isUndecided w) 2 1) (releaseCall x w)
+  pub release-all : (x : Lending) (w : W) (reset : Bool) → MayEnd x w w w reset (w .rw) 1 (releaseAllCall x w reset)
+  -- the mode that was asked for is in force after a bus reset
+  pub bus-reset : (x : Lending) (w : W) → MayEnd x w w w true (w .«want_rw») 1 (busResetCall x w)
+  pub mode-reset : (w : W) → modeReset w ≡ withRw w (w .«want_rw»)
+  pub set-read-only : (w : W) (on : Bool) → setReadOnly w on ≡ withWantRw w (not on)
   pub report : (ids : List ℕ) (j : ℕ) → Reports ids j (reportGone ids j)
   pub starts : (t : Table) (w : W) → Starts t w (start t w)
   pub reads : (fat area : List ℕ) (ps : List Pair) (recs : List Rec) (st : List St) (c s : ℕ) (out d : List ℕ) (slot size : ℕ) → Reads fat area ps recs st c s out d slot size

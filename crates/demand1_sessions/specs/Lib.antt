@@ -1,3 +1,5 @@
--- Demand 1 of the calls beside `write`: the statements over their definitions, and the proof.
+-- Demand 1 of the calls beside `write`.
+pub mod Ends
 pub mod Demand1
+pub mod EndLaws
 pub mod Theorem

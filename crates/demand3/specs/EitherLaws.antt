@@ -103,10 +103,10 @@ module _ (t : Table) (j : ℕ) (also : Event → Bool) where
       let k' = told-next t j e (h .trace) (effect t fine c (h .session) g j l) k in
       same-run fine l cs (next t h c) (good t fine c (h .session) g) k' (same-next e (h .trace) k' q)
 
--- what a release that was put off leaves unmarked may be taken to begin anew as well
-pub same-either : (t : Table) → accepts t ≡ true → (cs : List Call) (j : ℕ) → j < length (t .ids) → SameEither t j (run t (begun t) cs)
+-- whichever calls count besides those that completed a release
+pub same-either : (t : Table) → accepts t ≡ true → (cs : List Call) (j : ℕ) → j < length (t .ids) → (also : Event → Bool) → SameEither also t j (run t (begun t) cs)
 unfolding sinceBy
-same-either t fine cs j l =
+same-either t fine cs j l also =
     let k = told-none t j (getD (t .ids) j 0) (row-unmarked t (accepted t fine) j l) in
-    let r = same-run t j (λ e. e .out .putOff) fine l cs (begun t) (kept-start t) k (record { turned = refl; zeroed = refl; moved = refl; named = refl; gone = refl }) in
+    let r = same-run t j also fine l cs (begun t) (kept-start t) k (record { turned = refl; zeroed = refl; moved = refl; named = refl; gone = refl }) in
     record { turned = r .turned; zeroed = r .zeroed; named = r .named; gone = r .gone }

@@ -59,9 +59,9 @@ unfoldable pub anyOf : (Event → Bool) → List Event → Bool
 anyOf p [] = false
 anyOf p (e ∷ es) = p e || anyOf p es
 
--- What a call holds of file j, where st are the staging slots that it meets: a turn of its slot; its entries zeroed; data staged that names it; a
--- sector staged before the call that names it, as the medium of the call stands; a report of it. Read off the sectors shown, written and staged,
--- never off the file's marks; that data is staged, and not other data, goes by the cluster, as the judging does.
+-- What a call holds of file j: a turn of its slot; its entries zeroed; data staged that names it; a sector staged before the call that names it, as the
+-- medium of the call stands; a report of it. Read off the sectors shown, written and staged, never off a mark, but that data is staged, and not other
+-- data, goes by who owns the cluster, as the judging does.
 pub record Seen : Type 0 where
   pub turned : Bool
   pub zeroed : Bool
@@ -160,19 +160,22 @@ pub record Demand3 (t : Table) (h : History) : Type 0 where
   -- "A file turned and zeroed so, and not reported gone since that start or release, is handed"
   pub complete : (j : ℕ) → j < length (t .ids) → So (turnedIn t j (lately j h)) → So (zeroedIn t j (lately j h)) → So (not (goneIn t j (lately j h)))
       → So (handed (idOf (h .session) j))
+  -- nor does any call of the list, a release neither, take back a file that is handed, but a report that it is gone
+  pub held : (j : ℕ) → j < length (t .ids) → Each (λ e. So (handed (idOf (e .before) j)) → So (handed (idOf (e .out .after) j) || goneBy t j e)) (h .trace)
   -- "a completed release leaves no pair, record, staged cluster, boot byte or FAT[1] of the session", whichever call of the list led to it
   pub clean : Each (λ e. So (e .out .released) → Clean (e .out .after .w)) (h .trace)
 
--- "The release that last left it unmarked" may also be read with releases that were put off, which leave the table as it was.
-abbrev pub unmarksEither : ℕ → Event → Bool
-unmarksEither j e = (e .out .released || e .out .putOff) && unmarked (idOf (e .out .after) j)
+-- "The release that last left it unmarked" may also be read with releases that were put off, skipped or cut short, which leave the table as it was:
+-- `also` says which calls count besides those that completed one.
+abbrev pub unmarksEither : (Event → Bool) → ℕ → Event → Bool
+unmarksEither also j e = (e .out .released || also e) && unmarked (idOf (e .out .after) j)
 
-abbrev pub sinceEither : ℕ → List Event → List Event
-sinceEither j es = sinceBy (unmarksEither j) es
+abbrev pub sinceEither : (Event → Bool) → ℕ → List Event → List Event
+sinceEither also j es = sinceBy (unmarksEither also j) es
 
--- Both readings say the same of what the calls held.
-pub record SameEither (t : Table) (j : ℕ) (h : History) : Type 0 where
-  pub turned : turnedIn t j (sinceEither j (h .trace)) ≡ turnedIn t j (lately j h)
-  pub zeroed : zeroedIn t j (sinceEither j (h .trace)) ≡ zeroedIn t j (lately j h)
-  pub named : namedIn t j (sinceEither j (h .trace)) ≡ namedIn t j (lately j h)
-  pub gone : goneIn t j (sinceEither j (h .trace)) ≡ goneIn t j (lately j h)
+-- Every such reading says the same of what the calls held.
+pub record SameEither (also : Event → Bool) (t : Table) (j : ℕ) (h : History) : Type 0 where
+  pub turned : turnedIn t j (sinceEither also j (h .trace)) ≡ turnedIn t j (lately j h)
+  pub zeroed : zeroedIn t j (sinceEither also j (h .trace)) ≡ zeroedIn t j (lately j h)
+  pub named : namedIn t j (sinceEither also j (h .trace)) ≡ namedIn t j (lately j h)
+  pub gone : goneIn t j (sinceEither also j (h .trace)) ≡ goneIn t j (lately j h)

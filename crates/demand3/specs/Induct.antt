@@ -5,7 +5,7 @@ use mathlib.Core.List.{List, [], _∷_}
 use mathlib.Core.Path.{_≡_, refl, sym, _∙_, ap}
 use lib.ListN.{length}
 use Rattle.loops.specs.Loops.{pick}
-use Rattle.loops.specs.Choices.{and-0, and-1}
+use Rattle.loops.specs.Choices.{and-0, and-1, or-l, or-r}
 use Rattle.vdisk.specs.Ids.{turned, freed, gone, moved, handed, unmarked}
 use Rattle.file_table.specs.Table.{Table}
 use Rattle.demand3.specs.Step.{Session, Call, idOf}
@@ -21,6 +21,8 @@ pub record Effect (t : Table) (j : ℕ) (e : Event) : Type 0 where
   pub left : unmarks j e ≡ false → gone (idOf (e .out .after) j) ≡ (goneBy t j e || gone (idOf (e .before) j))
   pub move : unmarks j e ≡ false → moved (idOf (e .out .after) j) ≡ true
       → ((turnedBy t j e && seenIn t j e .named) || (stagedBy t j e && turned (idOf (e .before) j)) || moved (idOf (e .before) j)) ≡ true
+  -- a handed row isn't unmarked
+  pub hold : handed (idOf (e .before) j) ≡ true → unmarks j e ≡ false
 
 -- What the marks of row j say of the calls since.
 pub record Told (t : Table) (j id : ℕ) (es : List Event) : Type 0 where
@@ -103,6 +105,23 @@ module _ (t : Table) (j : ℕ) (e : Event) (es : List Event) (f : Effect t j e) 
   pub told-next : Told t j (idOf (e .out .after) j) (since j (e ∷ es))
   unfolding sinceBy
   told-next = told-by (unmarks j e) refl
+
+-- a handed row stays handed, or is reported gone
+held-of : (a b c d : Bool) → a ≡ true → b ≡ true → c ≡ (d || false) → ((a && b && not c) || d) ≡ true
+held-of a b c true p q r = or-r (a && b && not c) true refl
+held-of a b c false p q r = or-l (a && b && not c) false (rw (p, q, r))
+
+pub held-on : (t : Table) (j : ℕ) (e : Event) → Effect t j e → So (handed (idOf (e .before) j)) → So (handed (idOf (e .out .after) j) || goneBy t j e)
+unfolding handed
+held-on t j e f h =
+    let id = idOf (e .before) j in
+    let u = f .hold h in
+    let a = and-0 (turned id && freed id) (not (gone id)) h in
+    let g = not-no (gone id) (and-1 (turned id && freed id) (not (gone id)) h) in
+    held-of (turned (idOf (e .out .after) j)) (freed (idOf (e .out .after) j)) (gone (idOf (e .out .after) j)) (goneBy t j e)
+    (f .turn u ∙ or-r (turnedBy t j e) (turned id) (and-0 (turned id) (freed id) a))
+    (f .keep u (or-r (zeroedBy t j e) (freed id) (and-1 (turned id) (freed id) a)))
+    (f .left u ∙ ap (λ (b : Bool). goneBy t j e || b) g)
 
 -- the whole: a property of sessions that every call keeps, and that gives each call's effect
 module _ (t : Table) (Good : Session → Type 0)

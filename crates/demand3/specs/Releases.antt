@@ -6,11 +6,11 @@ use mathlib.Core.Path.{_≡_, sym, _∙_, ap}
 use native.Mathlib.Omega.{arith}
 use lib.ListN.{length, getD}
 use Rattle.loops.specs.Loops.{pick}
-use Rattle.loops.specs.Choices.{pick-by, pick-has, and-0, and-1, and-of, or-by, or-l, or-r}
+use Rattle.loops.specs.Choices.{either, pick-by, pick-has, and-0, and-1, and-of, or-by, or-l, or-r}
 use Rattle.loops.specs.Rows.{rows, rows-at, rows-length}
 use Rattle.bits.specs.Bit.{setBit}
 use Rattle.bits.specs.Laws.{bit-set-same, bit-set-below, bit-set-above}
-use Rattle.vdisk.specs.Ids.{turned, freed, gone, moved, cleared, unmarked}
+use Rattle.vdisk.specs.Ids.{turned, freed, gone, moved, cleared, handed, unmarked}
 use Rattle.vdisk.specs.IdLaws.{set-low, cleared-marks}
 use Rattle.file_table.specs.Table.{Table}
 use Rattle.state.specs.declared.w.W.{W}
@@ -52,6 +52,15 @@ module _ (id : ℕ) where
   unfolding unmarked
   cleared-unmarked = let v = cleared-marks id in rw (v .0, v .1, v .2, v .3)
 
+-- a freed row is marked
+marked : (id : ℕ) → freed id ≡ true → unmarked id ≡ false
+unfolding unmarked
+marked id f =
+    let a = not (turned id) in
+    either (a && not (freed id))
+    (λ q. absurd (true≢false (sym (and-1 a (not (freed id)) q) ∙ ap not f)))
+    (λ q. rw q)
+
 module _ (t : Table) (s : Session) (m : Medium) (k : Kept t (s .ids) (s .w)) (j : ℕ) (l : j < length (t .ids)) where
   abbrev named : Bool
   named = movedRef (m .fat) (m .area) (s .w .st) (startIn t j) (sizeIn t j)
@@ -80,7 +89,7 @@ module _ (t : Table) (s : Session) (m : Medium) (k : Kept t (s .ids) (s .w)) (j 
 
   -- a row is unmarked by it, or was so, and is handed
   row-by : {R : Type 0} (ids : List ℕ) → ids ≡ releasedIds (lent t s m) (s .w .st)
-      → (unmarked (getD ids j 0) ≡ true → R)
+      → (on ≡ false → unmarked (getD ids j 0) ≡ true → R)
       → (turned (getD ids j 0) ≡ turned (idOf s j) → freed (getD ids j 0) ≡ true → gone (getD ids j 0) ≡ gone (idOf s j) → moved (getD ids j 0) ≡ false
       → freedOr ≡ true → R) → R
   row-by {R} ids e bare stays =
@@ -88,21 +97,32 @@ module _ (t : Table) (s : Session) (m : Medium) (k : Kept t (s .ids) (s .w)) (j 
       (λ q at. let o = on-of q in
       stays (ap turned at ∙ handed-turned (idOf s j) ∙ sym (o .0)) (ap freed at ∙ handed-freed (idOf s j)) (ap gone at ∙ handed-gone (idOf s j) ∙ sym (o .1))
       (ap moved at ∙ handed-moved (idOf s j)) (o .2))
-      (λ q at. bare (ap unmarked at ∙ cleared-unmarked (idOf s j)))
+      (λ q at. bare q (ap unmarked at ∙ cleared-unmarked (idOf s j)))
       (rw e row-at)
+
+  -- a handed file is one that stays so
+  handed-on : handed (idOf s j) ≡ true → on ≡ true
+  unfolding handed handedOn
+  handed-on h =
+      let id = idOf s j in
+      let a = and-0 (turned id && freed id) (not (gone id)) h in
+      and-of (turned id && not (gone id)) (freed id || (moved id && named))
+      (and-of (turned id) (not (gone id)) (and-0 (turned id) (freed id) a) (and-1 (turned id && freed id) (not (gone id)) h))
+      (or-l (freed id) (moved id && named) (and-1 (turned id) (freed id) a))
 
   -- the effect of a call that released
   pub release-effect : (e : Event) → e .before ≡ s → e .out .released ≡ true → e .out .after .ids ≡ releasedIds (lent t s m) (s .w .st)
       → turnedBy t j e ≡ false → zeroedBy t j e ≡ false → namedBy t j e ≡ named → goneBy t j e ≡ false → Effect t j e
   release-effect e b r i tu ze na re =
       row-by (e .out .after .ids) i
-      (λ u. let z : unmarks j e ≡ true = rw r u in
+      (λ o u. let z : unmarks j e ≡ true = rw r u in
       record {
         turn = λ q. absurd (true≢false (sym z ∙ q));
         free = λ q p. absurd (true≢false (sym z ∙ q));
         keep = λ q p. absurd (true≢false (sym z ∙ q));
         left = λ q. absurd (true≢false (sym z ∙ q));
         move = λ q p. absurd (true≢false (sym z ∙ q));
+        hold = λ h. absurd (true≢false (sym (handed-on (rw b at h)) ∙ o));
       })
       (λ x y z v n. record {
         turn = λ q. rw (tu, b) x;
@@ -110,6 +130,7 @@ module _ (t : Table) (s : Session) (m : Medium) (k : Kept t (s .ids) (s .w)) (j 
         keep = λ q p. y;
         left = λ q. rw (re, b) z;
         move = λ q p. absurd (true≢false (sym p ∙ v));
+        hold = λ h. rw r (marked (getD (e .out .after .ids) j 0) y);
       })
 
 -- a release keeps what every call keeps

@@ -25,8 +25,8 @@ use Rattle.write.specs.Write.{write as written}
 use Rattle.release.specs.Release.{Ended}
 use Rattle.sessions.specs.Sessions.{Reported, modeReset, setReadOnly as readOnlySet, reportGone, start}
 use Rattle.demand3.specs.Step.{Session, Outcome, Medium, Sector, Call, write, poll, release, releaseAll, busReset, resetMode, setReadOnly, report, refusedStart, sectorOf, lent, ofEnded, ofReported, step, idOf}
-use Rattle.demand3.specs.History.{seen, namedNow, ofStaged, event, run, next, begun, sinceBy, lately, Clean, History, Each, none, more, Demand3}
-use Rattle.demand3.specs.Induct.{Effect, Told, told-run, told-none, told-demand}
+use Rattle.demand3.specs.History.{seen, goneBy, namedNow, ofStaged, event, run, next, begun, sinceBy, lately, Clean, History, Each, none, more, Demand3}
+use Rattle.demand3.specs.Induct.{Effect, held-on, Told, told-run, told-none, told-demand}
 use Rattle.demand3.specs.Ends.{EndsAs, releaseAll-ends, releaseCall-ends, busReset-ends, poll-ends}
 use Rattle.demand3.specs.Releases.{release-effect, release-kept}
 
@@ -40,8 +40,8 @@ or-mid false false c e = e
 
 -- a call that leaves the ids and holds nothing of the file
 still : (t : Table) (j : ℕ) (c : Call) (s : Session) (o : Outcome) → o .after .ids ≡ s .ids → seen t j s c .turned ≡ false → seen t j s c .zeroed ≡ false
-    → seen t j s c .gone ≡ false → Effect t j (record { call = c; before = s; out = o })
-still t j c s o e tu ze re =
+    → seen t j s c .gone ≡ false → o .released ≡ false → Effect t j (record { call = c; before = s; out = o })
+still t j c s o e tu ze re ran =
     let taken = eqb (o .number) 0 in
     let i : idOf (o .after) j ≡ idOf s j = rw e in
     record {
@@ -51,6 +51,7 @@ still t j c s o e tu ze re =
       keep = λ u p. ap freed i ∙ (rw (and-no taken (seen t j s c .zeroed) ze) at p);
       left = λ u. ap gone i ∙ sym (rw (and-no taken (seen t j s c .gone) re));
       move = λ u p. or-r ((taken && seen t j s c .turned && seen t j s c .named) || (taken && seen t j s c .staged && turned (idOf s j))) (moved (idOf s j)) (sym (ap moved i) ∙ p);
+      hold = λ h. rw ran;
     }
 
 -- a report of row i
@@ -96,9 +97,10 @@ module _ (t : Table) (s : Session) (k : Good t s) (i : ℕ) where
         keep = λ u p. ap freed at ∙ lower-bit (eqb i j) (idOf s j) 14 13 (omega arith) ∙ p;
         left = λ u. ap gone at ∙ same-bit (eqb i j) (idOf s j) 14;
         move = λ u p. sym (ap moved at ∙ upper-bit (eqb i j) (idOf s j) 14 15 (omega arith)) ∙ p;
+        hold = λ h. refl;
       })
-      (record { turn = λ u. refl; free = λ u p. p; keep = λ u p. p; left = λ u. refl; move = λ u p. p })
-      (record { turn = λ u. refl; free = λ u p. p; keep = λ u p. p; left = λ u. refl; move = λ u p. p })
+      (record { turn = λ u. refl; free = λ u p. p; keep = λ u p. p; left = λ u. refl; move = λ u p. p; hold = λ h. refl })
+      (record { turn = λ u. refl; free = λ u p. p; keep = λ u p. p; left = λ u. refl; move = λ u p. p; hold = λ h. refl })
 
 -- a call that may have ended the session
 module _ (t : Table) (s : Session) (k : Good t s) (m : Medium) (e : Ended) (a : EndsAs (lent t s m) (s .w) e) where
@@ -115,7 +117,7 @@ module _ (t : Table) (s : Session) (k : Good t s) (m : Medium) (e : Ended) (a : 
       (λ q. let r = a .ran q in
       release-effect t s m k j l (record { call = c; before = s; out = ofEnded e }) refl q (r .ids)
       (rw is (and-no (eqb (e .number) 0) false refl)) (rw is (and-no (eqb (e .number) 0) false refl)) (rw (q, is)) (rw is (and-no (eqb (e .number) 0) false refl)))
-      (λ q. let r = a .stays q in still t j c s (ofEnded e) (r .ids) (rw is) (rw is) (rw is))
+      (λ q. let r = a .stays q in still t j c s (ofEnded e) (r .ids) (rw is) (rw is) (rw is) q)
 
   ended-clean : So (eqb (e .ended) 1) → Clean (e .w)
   ended-clean q = a .ran q .clean
@@ -147,6 +149,7 @@ module _ (t : Table) (fine : accepts t ≡ true) (s : Session) (k : Good t s) (x
         free = λ u p. or-mid (eqb n 0 && zeroesEntries t j (sectorOf t s x busy m)) false (freed (idOf s j)) (sym (d .free) ∙ p);
         keep = λ u p. d .free ∙ p;
         left = λ u. d .left ∙ sym (rw (and-no (eqb n 0) false refl));
+        hold = λ h. refl;
         move = λ u p. sym (d .move ∙ moves-as (eqb n 0) (turnsSlot t j y) (namedNow t j (s .w .st) m) (turned (idOf s j)) (stagesName t j y (s .w)) (moved (idOf s j))) ∙ p;
       }
 
@@ -175,10 +178,10 @@ module _ (t : Table) (fine : accepts t ≡ true) where
   effect (release m) s k j l = ended-effect t s k m _ (releaseCall-ends (lent t s m) (s .w)) (release m) j l refl
   effect (releaseAll reset m) s k j l = ended-effect t s k m _ (releaseAll-ends (lent t s m) (s .w) reset) (releaseAll reset m) j l refl
   effect (busReset m) s k j l = ended-effect t s k m _ (busReset-ends (lent t s m) (s .w)) (busReset m) j l refl
-  effect resetMode s k j l = still t j resetMode s _ refl refl refl refl
-  effect (setReadOnly on) s k j l = still t j (setReadOnly on) s _ refl refl refl refl
+  effect resetMode s k j l = still t j resetMode s _ refl refl refl refl refl
+  effect (setReadOnly on) s k j l = still t j (setReadOnly on) s _ refl refl refl refl refl
   effect (report i) s k j l = report-effect t s k i j
-  effect (refusedStart other e) s k j l = still t j (refusedStart other e) s _ refl refl refl refl
+  effect (refusedStart other e) s k j l = still t j (refusedStart other e) s _ refl refl refl refl refl
 
   -- what every list of calls tells of a row
   pub told : (cs : List Call) (j : ℕ) → j < length (t .ids) → Told t j (idOf (run t (begun t) cs .session) j) (lately j (run t (begun t) cs))
@@ -205,10 +208,20 @@ unfolding run event
 clean-run t [] h k = k
 clean-run t (c ∷ cs) h k = clean-run t cs (next t h c) (more (demand-3-clean t c (h .session)) k)
 
+-- a handed file stays handed through every call
+held-run : (t : Table) → accepts t ≡ true → (j : ℕ) → j < length (t .ids) → (cs : List Call) (h : History) → Good t (h .session)
+    → Each (λ e. So (handed (idOf (e .before) j)) → So (handed (idOf (e .out .after) j) || goneBy t j e)) (h .trace)
+    → Each (λ e. So (handed (idOf (e .before) j)) → So (handed (idOf (e .out .after) j) || goneBy t j e)) (run t h cs .trace)
+unfolding run event
+held-run t fine j l [] h g k = k
+held-run t fine j l (c ∷ cs) h g k =
+    held-run t fine j l cs (next t h c) (good t fine c (h .session) g) (more (held-on t j (event t c (h .session)) (effect t fine c (h .session) g j l)) k)
+
 pub demand-3 : (t : Table) → accepts t ≡ true → (cs : List Call) → Demand3 t (run t (begun t) cs)
 demand-3 t fine cs =
     record {
       safe = λ j l. told-demand t j (run t (begun t) cs) (told t fine cs j l) .safe;
+      held = λ j l. held-run t fine j l cs (begun t) (kept-start t) none;
       complete = λ j l. told-demand t j (run t (begun t) cs) (told t fine cs j l) .complete;
       clean = clean-run t cs (begun t) none;
     }
