@@ -10,16 +10,20 @@ use lib.ListN.{set}
 use Rattle.loops.specs.Loops.{pick}
 use Rattle.loops.specs.declared.Found.{Found}
 use Rattle.loops.specs.declared.Found.the-variants.{At, Nothing}
+use Rattle.num.specs.Num.{wrappingNext}
 use Rattle.vdisk.specs.Drive.{placeOf}
 use Rattle.vdisk.specs.declared.drive.Place.{Place}
 use Rattle.vdisk.specs.declared.drive.Place.the-variants.{Boot, Fat, Root, Data, Outside}
+use Rattle.state.specs.Setters.{withErr, withN}
 use Rattle.state.specs.Staged.{slotOf, freeSlot}
 use Rattle.state.specs.declared.w.St.{St}
+use Rattle.state.specs.declared.w.Stats.{Stats}
 use Rattle.state.specs.declared.w.W.{W}
 use Rattle.staging.specs.Staging.{slotFor}
 use Rattle.judge.specs.Classify.{SectorWrite, classify}
-use Rattle.write.specs.Write.{Written, refusedState, write}
+use Rattle.write.specs.Write.{Written, write}
 use Rattle.admits.specs.Admits.{isPlace, admits}
+use Rattle.admits.specs.Refusals.{refusal}
 use Rattle.opens.specs.Opens.{opens}
 use Rattle.demand1.specs.Sound.{Sound}
 use Rattle.demand1.specs.Changes.{stagingState, hintAfter, Taken, Same, AtPlace}
@@ -52,17 +56,32 @@ claimAt ss c Nothing = ss
 unfoldable pub claimedSlots : List St → ℕ → List St
 claimedSlots ss c = pick (isPlace (slotOf ss c)) ss (claimAt ss c (freeSlot ss))
 
--- "1, 10 .. change nothing. In `write` the others set the error and its count, which goes round; all but 19 also the last refused place. 17 and
--- 18 also keep the claimed slot, staging, its time and the moved hint"
+-- "17 and 18 also keep the claimed slot, staging, its time and the moved hint"
 unfoldable pub claimedState : SectorWrite → W → Place → W
 claimedState x w p = stagingState w (claimedSlots (w .st) (clusterOf p)) (hintAfter x w (clusterOf p) (sectorIn p))
 
--- what number n leaves of w
+-- "The Rust has E_IO for 2 and 17, E_BUSY for 19, E_REFUSED for 3 to 9, 12 to 16, 18", which are 0, 2 and 1
+unfoldable pub errorFor : ℕ → ℕ
+errorFor n = pick (eqb n 19) 2 (pick (eqb n 2 || eqb n 17) 0 1)
+
+-- "the others set the error and its count, which goes round; all but 19 also the last refused place"
+unfoldable pub countsFor : Stats → ℕ → ℕ → Stats
+countsFor c lba n =
+    record {
+      ok = c .ok;
+      refused = pick (eqb n 19) (c .refused) (wrappingNext (c .refused));
+      busy = pick (eqb n 19) (wrappingNext (c .busy)) (c .busy);
+      «last_refused» = pick (eqb n 19) (c .«last_refused») lba;
+      deleted = c .deleted;
+      «fw_ok» = c .«fw_ok»;
+      «fw_bad» = c .«fw_bad»;
+    }
+
+-- "1, 10 .. change nothing": what number n leaves of w
 unfoldable pub leftState : SectorWrite → W → ℕ → W
 leftState x w n =
     pick (eqb n 1 || eqb n 10) w
-    (pick (eqb n 17 || eqb n 18) (refusedState (claimedState x w (placeOf (x .lba))) (x .lba) n)
-    (refusedState w (x .lba) n))
+    (withN (withErr (pick (eqb n 17 || eqb n 18) (claimedState x w (placeOf (x .lba))) w) (errorFor n)) (countsFor (w .n) (x .lba) n))
 
 -- "leaves FAT pairs, root records, file marks, FAT[1] and the boot byte as before; a staging refusal touches only what is listed for it"
 pub record Refused (x : SectorWrite) (w : W) (r : Written) : Type 0 where
@@ -78,12 +97,13 @@ pub record Refused (x : SectorWrite) (w : W) (r : Written) : Type 0 where
 pub record Demand1 (x : SectorWrite) (w : W) : Type 0 where
   -- "Every 512-byte sector that the rules of document 01 admit is taken", and no other
   pub admitted : eqb (write x w .number) 0 ≡ admits x w
-  -- "Any other sector, and any call given what it turns down, ends with one listed refusal number"
+  -- "Any other sector, and any call given what it turns down, ends with one listed refusal number": the one for its place and reason
+  pub number : write x w .number ≡ pick (admits x w) 0 (refusal x w)
   pub listed : isListed (write x w .number) ≡ true
   pub refused : (write x w .number ≡ 0 → ⊥) → Refused x w (write x w)
   -- "and changes what they list for it and nothing more"
   pub taken : write x w .number ≡ 0 → Taken x w (write x w) (classify x w)
   pub changed : write x w .number ≡ 0 → AtPlace x w (classify x w) (placeOf (x .lba))
   pub unchanged : write x w .number ≡ 0 → opens x w ≡ false → Same x w (classify x w)
-  -- the claims that ask for a sound state hold all along a session: its first state is sound, and so is what every call leaves
+  -- what the claims that ask for a sound state need of the next call; every other call keeps it too (`demand1_lists`)
   pub sound : Sound w → Sound (write x w .w)

@@ -28,8 +28,21 @@ use Rattle.state.specs.declared.w.St.{St}
 use Rattle.state.specs.declared.w.W.{W}
 use Rattle.fat_sectors.specs.Fat.{FatWrite, clusterAt, valueAt, changedAt, ownerAt, fatNumber, freesRow, freedOwner, applyAt, fatState, freeId, fatIds}
 use Rattle.judge.specs.Classify.{SectorWrite, Outcome, fatOf, fat, ownerIn}
-use Rattle.demand1.specs.Changes.{entryChanged, setsPair, pairSet}
+use Rattle.demand1.specs.Changes.{isValue}
 use Rattle.demand1.specs.Turns.{fold-in, none-at}
+
+-- The notions of Changes by what the handler reads: an entry of cluster k is changed; entry i sets its pair; cluster k's is set; it is removed.
+unfoldable pub changedIn : FatWrite → ℕ → Bool
+changedIn f k = some (λ i. changedAt f i && eqb (clusterAt f i) k) 256 0
+
+unfoldable pub setsIn : FatWrite → ℕ → Bool
+setsIn f i = changedAt f i && not (eqb (clusterAt f i) 1) && not (freedOwner f (ownerAt f i))
+
+unfoldable pub setIn : FatWrite → ℕ → Bool
+setIn f k = some (λ i. setsIn f i && eqb (clusterAt f i) k) 256 0
+
+unfoldable pub removedIn : FatWrite → ℕ → Bool
+removedIn f k = some (λ i. setsIn f i && eqb (clusterAt f i) k && eqb (valueAt f i) 0) 256 0 && isValue (pairOf (f .pairs) k)
 
 -- all fields but the pairs, the staging slots and FAT[1] are w's
 abbrev OnlyFat : W → W → Type 0
@@ -76,36 +89,36 @@ module _ (w : W) (f : FatWrite) where
       e)
 
   -- an entry that isn't changed is no turn's
-  other : (k i : ℕ) → entryChanged f k ≡ false → i < 256 → changedAt f i ≡ true → clusterAt f i ≡ k → ⊥
-  unfolding entryChanged
+  other : (k i : ℕ) → changedIn f k ≡ false → i < 256 → changedAt f i ≡ true → clusterAt f i ≡ k → ⊥
+  unfolding changedIn
   other k i e l q z =
       true≢false (sym (and-of (changedAt f i) (eqb (clusterAt f i) k) q (eq-eqb (clusterAt f i) k z))
       ∙ none-at (λ i. changedAt f i && eqb (clusterAt f i) k) 256 i e l)
 
-  fat1-apply : entryChanged f 1 ≡ false → (i : ℕ) (v : W) → i < 256 → v .fat1 ≡ w .fat1 → applyAt f i v .fat1 ≡ w .fat1
+  fat1-apply : changedIn f 1 ≡ false → (i : ℕ) (v : W) → i < 256 → v .fat1 ≡ w .fat1 → applyAt f i v .fat1 ≡ w .fat1
   fat1-apply e i v l h =
       apply-by f (λ u. u .fat1 ≡ w .fat1) i v h (λ q z. absurd (other 1 i e l q z)) (λ q. setPair-only v (clusterAt f i) (valueAt f i) .fat1 ∙ h)
 
   -- a pair that is set is one of an entry's that sets it
-  sets-of : (i : ℕ) → changedAt f i ≡ true → (clusterAt f i ≡ 1 → ⊥) → freedOwner f (ownerAt f i) ≡ false → setsPair f i ≡ true
-  unfolding setsPair
+  sets-of : (i : ℕ) → changedAt f i ≡ true → (clusterAt f i ≡ 1 → ⊥) → freedOwner f (ownerAt f i) ≡ false → setsIn f i ≡ true
+  unfolding setsIn
   sets-of i q n o =
       let a = not (eqb (clusterAt f i) 1) in
       let b = not (freedOwner f (ownerAt f i)) in
       and-of (changedAt f i && a) b (and-of (changedAt f i) a q (ap not (ne-eqb (clusterAt f i) 1 n))) (ap not o)
 
-  pub unset : (k i : ℕ) → pairSet f k ≡ false → i < 256 → setsPair f i ≡ true → clusterAt f i ≡ k → ⊥
-  unfolding pairSet
+  pub unset : (k i : ℕ) → setIn f k ≡ false → i < 256 → setsIn f i ≡ true → clusterAt f i ≡ k → ⊥
+  unfolding setIn
   unset k i e l q z =
-      true≢false (sym (and-of (setsPair f i) (eqb (clusterAt f i) k) q (eq-eqb (clusterAt f i) k z))
-      ∙ none-at (λ i. setsPair f i && eqb (clusterAt f i) k) 256 i e l)
+      true≢false (sym (and-of (setsIn f i) (eqb (clusterAt f i) k) q (eq-eqb (clusterAt f i) k z))
+      ∙ none-at (λ i. setsIn f i && eqb (clusterAt f i) k) 256 i e l)
 
   -- the ways of an entry, where the pairs and slots are concerned
-  pub apply-pairs : (P : W → Type 0) (i : ℕ) (v : W) → P v → ((n : ℕ) → P (withFat1 v n)) → (setsPair f i ≡ true → P (setPair v (clusterAt f i) (valueAt f i)))
+  pub apply-pairs : (P : W → Type 0) (i : ℕ) (v : W) → P v → ((n : ℕ) → P (withFat1 v n)) → (setsIn f i ≡ true → P (setPair v (clusterAt f i) (valueAt f i)))
       → P (applyAt f i v)
   apply-pairs P i v h g k = apply-cases f P i v (λ q. h) (λ q z. g (valueAt f i + 65536)) (λ q z y. h) (λ q z y. k (sets-of i q z y))
 
-  module _ (k : ℕ) (e : pairSet f k ≡ false) where
+  module _ (k : ℕ) (e : setIn f k ≡ false) where
     pair-apply : (i : ℕ) (v : W) → i < 256 → pairOf (v .pair) k ≡ pairOf (w .pair) k → pairOf (applyAt f i v .pair) k ≡ pairOf (w .pair) k
     unfolding withFat1
     pair-apply i v l h =
@@ -123,7 +136,7 @@ module _ (w : W) (f : FatWrite) where
       (λ i e z g. other-stands pairKey pair0 maxPairs (v .pair) i p n (λ y. u (sym y ∙ freePair-is (v .pair) i g)))
       refl
 
-  place-apply : (n : ℕ) → (getD (w .pair) n pair0 .c ≡ 0 → ⊥) → pairSet f (getD (w .pair) n pair0 .c) ≡ false
+  place-apply : (n : ℕ) → (getD (w .pair) n pair0 .c ≡ 0 → ⊥) → setIn f (getD (w .pair) n pair0 .c) ≡ false
       → (i : ℕ) (v : W) → i < 256 → getD (v .pair) n pair0 ≡ getD (w .pair) n pair0 → getD (applyAt f i v .pair) n pair0 ≡ getD (w .pair) n pair0
   unfolding withFat1
   place-apply n u e i v l h =
@@ -131,13 +144,13 @@ module _ (w : W) (f : FatWrite) where
       (λ q. place-stands v (clusterAt f i) (valueAt f i) n (λ y. u (rw h at y)) (λ y. unset (getD (w .pair) n pair0 .c) i e l q (sym (rw h at y))) ∙ h)
 
   -- a file that the sector frees has no entry that sets a pair
-  freed-unset : (k j : ℕ) → ownerOf (f .starts) (f .sizes) (f .first) k ≡ Dyn j → freesRow f j ≡ true → pairSet f k ≡ false
-  unfolding pairSet setsPair freedOwner
+  freed-unset : (k j : ℕ) → ownerOf (f .starts) (f .sizes) (f .first) k ≡ Dyn j → freesRow f j ≡ true → setIn f k ≡ false
+  unfolding setIn setsIn freedOwner
   freed-unset k j o r =
-      either (some (λ i. setsPair f i && eqb (clusterAt f i) k) 256 0)
-      (λ q. some-in (λ i. setsPair f i && eqb (clusterAt f i) k) 256 0 q
-      (λ i l h z. let c = eqb-true (clusterAt f i) k (and-1 (setsPair f i) (eqb (clusterAt f i) k) z) in
-      let s = and-1 (changedAt f i && not (eqb (clusterAt f i) 1)) (not (freedOwner f (ownerAt f i))) (and-0 (setsPair f i) (eqb (clusterAt f i) k) z) in
+      either (some (λ i. setsIn f i && eqb (clusterAt f i) k) 256 0)
+      (λ q. some-in (λ i. setsIn f i && eqb (clusterAt f i) k) 256 0 q
+      (λ i l h z. let c = eqb-true (clusterAt f i) k (and-1 (setsIn f i) (eqb (clusterAt f i) k) z) in
+      let s = and-1 (changedAt f i && not (eqb (clusterAt f i) 1)) (not (freedOwner f (ownerAt f i))) (and-0 (setsIn f i) (eqb (clusterAt f i) k) z) in
       let t : not (freesRow f j) ≡ true = rw (c, o) at s in
       absurd (true≢false (sym r ∙ not-true (freesRow f j) t))))
       (λ q. q)
@@ -146,9 +159,9 @@ module _ (x : SectorWrite) (w : W) (s : ℕ) where
   -- all of it but what is set
   pub record FatFrame (o : Outcome) : Type 0 where
     pub state : o .w ≡ withFat1 (withPair (withSt w (o .w .st)) (o .w .pair)) (o .w .fat1)
-    pub fat1 : entryChanged (fatOf x w s) 1 ≡ false → o .w .fat1 ≡ w .fat1
-    pub pairs : (k : ℕ) → pairSet (fatOf x w s) k ≡ false → pairOf (o .w .pair) k ≡ pairOf (w .pair) k
-    pub places : (n : ℕ) → (getD (w .pair) n pair0 .c ≡ 0 → ⊥) → pairSet (fatOf x w s) (getD (w .pair) n pair0 .c) ≡ false
+    pub fat1 : changedIn (fatOf x w s) 1 ≡ false → o .w .fat1 ≡ w .fat1
+    pub pairs : (k : ℕ) → setIn (fatOf x w s) k ≡ false → pairOf (o .w .pair) k ≡ pairOf (w .pair) k
+    pub places : (n : ℕ) → (getD (w .pair) n pair0 .c ≡ 0 → ⊥) → setIn (fatOf x w s) (getD (w .pair) n pair0 .c) ≡ false
         → getD (o .w .pair) n pair0 ≡ getD (w .pair) n pair0
     pub freed : (k j : ℕ) → ownerIn x w k ≡ Dyn j → freesRow (fatOf x w s) j ≡ true → pairOf (o .w .pair) k ≡ pairOf (w .pair) k
     pub ids : o .ids ≡ rows (λ j id. pick (freesRow (fatOf x w s) j) (setBit id 13) id) (x .ids)
@@ -158,7 +171,7 @@ module _ (x : SectorWrite) (w : W) (s : ℕ) where
   fat-frame e =
       let f = fatOf x w s in
       let q = eq-eqb (fatNumber f) 0 e in
-      let stay : (k : ℕ) → pairSet f k ≡ false → pairOf (fold (applyAt f) 256 0 w .pair) k ≡ pairOf (w .pair) k =
+      let stay : (k : ℕ) → setIn f k ≡ false → pairOf (fold (applyAt f) 256 0 w .pair) k ≡ pairOf (w .pair) k =
       λ k n. fold-in (λ u. pairOf (u .pair) k ≡ pairOf (w .pair) k) (applyAt f) 256 (pair-apply w f k n) w refl in
       record {
         state = rw q (fold-in (OnlyFat w) (applyAt f) 256 (only-apply w f) w refl);

@@ -5,16 +5,18 @@ use mathlib.Core.List.{List}
 use mathlib.Core.Path.{_≡_, refl, sym, _∙_, ap}
 use native.Mathlib.Omega.{arith}
 use lib.Dec.{ltb, eqb}
-use lib.ListN.{length}
+use lib.ListN.{length, getD}
 use borrow.Author.Tests.{eqb-true, eqb-false, eq-eqb, ne-eqb, ltb-true, ltb-false, not-true, not-false}
 use Rattle.loops.specs.Loops.{pick, first, count, fold}
 use Rattle.loops.specs.Choices.{either, picked, and-0, and-1, and-of}
 use Rattle.loops.specs.Facts.{some-at, first-at, first-below}
 use Rattle.loops.specs.Found.{found-by}
 use Rattle.loops.specs.Marks.{isAt, pickedBy}
+use Rattle.loops.specs.Rows.{rows-same}
+use Rattle.bits.specs.Bit.{setBit}
 use Rattle.vdisk.specs.declared.owner.Own.{Own}
 use Rattle.vdisk.specs.declared.owner.Own.the-variants.{Reserved, Fixed, Dyn, Free}
-use Rattle.state.specs.State.{maxPairs}
+use Rattle.state.specs.State.{maxPairs, pair0, noSt}
 use Rattle.state.specs.Setters.{withFat1}
 use Rattle.state.specs.Pairs.{pairIdx, pairAt, pairOf, freePairs}
 use Rattle.state.specs.LookupLaws.{NoTwice, none-pairOf}
@@ -28,9 +30,10 @@ use Rattle.clusters.specs.Clusters.{isNothing, isLive, hostOwn}
 use Rattle.fat_sectors.specs.Fat.{FatWrite, clusterAt, valueAt, changedAt, ownerAt, ownNumber, entryNumber, refusedAt, needsPair, fatNumber, freedOwn, freedBy, freesRow, freedOwner, applyAt, fatState}
 use Rattle.judge.specs.Classify.{SectorWrite, fatOf, fat}
 use Rattle.demand1.specs.Sound.{Sound}
-use Rattle.demand1.specs.Changes.{setsPair, pairAs, FatOnly}
+use Rattle.demand1.specs.Changes.{freesFile, pairAs, FatOnly}
 use Rattle.demand1.specs.Room.{fold-does}
-use Rattle.demand1.specs.FatFrame.{apply-cases, fat-frame}
+use Rattle.demand1.specs.FatFrame.{setsIn, apply-cases, fat-frame}
+use Rattle.demand1.specs.FatOwn.{changed-same, value-same, differs-same, frees-same, sets-same, set-same, removed-same}
 use Rattle.demand1.specs.FatSlots.{slot-stays, slot-dropped, fat1-sets}
 
 -- a cluster has a pair or none
@@ -57,7 +60,7 @@ module _ (w : W) (f : FatWrite) (passes : (i : ℕ) → i < 256 → entryNumber 
   Before i v = (length (v .pair) ≡ maxPairs) × NoTwice (v .pair)
 
   abbrev Sets : ℕ → W → Type 0
-  Sets j v = setsPair f j ≡ true → pairOf (v .pair) (clusterAt f j) ≡ pairAs (valueAt f j)
+  Sets j v = setsIn f j ≡ true → pairOf (v .pair) (clusterAt f j) ≡ pairAs (valueAt f j)
 
   -- a changed entry that passes is not FAT[0], and where its file isn't freed by the sector it is a host cluster's
   not-first : (i : ℕ) → i < 256 → changedAt f i ≡ true → clusterAt f i ≡ 0 → ⊥
@@ -112,7 +115,7 @@ module _ (w : W) (f : FatWrite) (passes : (i : ℕ) → i < 256 → entryNumber 
       )
 
   does : (i : ℕ) (v : W) → i < 256 → Before i v → (needs v i ≡ true → freePairs (v .pair) ≡ 0 → ⊥) → Sets i (applyAt f i v)
-  unfolding withFat1 pairAs setsPair
+  unfolding withFat1 pairAs setsIn
   does i v l h some =
       let b = not (eqb (clusterAt f i) 1) in
       let g = not (freedOwner f (ownerAt f i)) in
@@ -174,7 +177,7 @@ module _ (x : SectorWrite) (w : W) (s : ℕ) (taken : fat x w s .number ≡ 0) w
   unfolding needsPair
   fits = passed (λ q n. n)
 
-  sets-as : Sound w → (i : ℕ) → i < 256 → setsPair (fatOf x w s) i ≡ true
+  sets-as : Sound w → (i : ℕ) → i < 256 → setsIn (fatOf x w s) i ≡ true
       → pairOf (fold (applyAt (fatOf x w s)) 256 0 w .pair) (clusterAt (fatOf x w s) i) ≡ pairAs (valueAt (fatOf x w s) i)
   sets-as h i l q =
       let f = fatOf x w s in
@@ -190,14 +193,14 @@ module _ (x : SectorWrite) (w : W) (s : ℕ) (taken : fat x w s .number ≡ 0) w
       let r = fat-frame x w s taken in
       record {
         state = r .state;
-        fat1-set = λ i l c z. rw q (fat1-sets w f i l c z);
-        fat1 = r .fat1;
-        pair-set = λ h i l c. rw q (sets-as h i l c);
-        pairs = r .pairs;
-        places = r .places;
-        freed = r .freed;
-        slot-free = λ h n l e. rw q (slot-dropped w f refl n h l (not-first w f all-pass) e);
-        slots = λ n e. rw q (slot-stays w f refl n e);
-        ids = r .ids;
+        fat1-set = λ i l c z. rw q (fat1-sets w f i l (sym (differs-same x w s i) ∙ c) z ∙ ap (λ (v : ℕ). v + 65536) (value-same x w s i));
+        fat1 = λ e. r .fat1 (sym (changed-same x w s 1) ∙ e);
+        pair-set = λ h i l c. rw q (sets-as h i l (sym (sets-same x w s i) ∙ c) ∙ ap pairAs (value-same x w s i));
+        pairs = λ k e. r .pairs k (sym (set-same x w s k) ∙ e);
+        places = λ n u e. r .places n u (sym (set-same x w s (getD (w .pair) n pair0 .c)) ∙ e);
+        freed = λ k j o e. r .freed k j o (frees-same x w s j ∙ e);
+        slot-free = λ h n l e. rw q (slot-dropped w f refl n h l (not-first w f all-pass) (sym (removed-same x w s (getD (w .st) n noSt .c)) ∙ e));
+        slots = λ n e. rw q (slot-stays w f refl n (sym (removed-same x w s (getD (w .st) n noSt .c)) ∙ e));
+        ids = r .ids ∙ rows-same (λ j id. pick (freesRow f j) (setBit id 13) id) (λ j id. pick (freesFile x w s j) (setBit id 13) id) (x .ids) (λ j id h. rw (frees-same x w s j));
         area = refl;
       }

@@ -25,9 +25,9 @@ use Rattle.state.specs.declared.pairs.PairOf.{PairOf}
 use Rattle.state.specs.declared.pairs.PairOf.the-variants.{Value, NoPair}
 use Rattle.fat_sectors.specs.Fat.{FatWrite, clusterAt, valueAt, changedAt, ownerAt, freedOwner, applyAt}
 use Rattle.demand1.specs.Sound.{Sound}
-use Rattle.demand1.specs.Changes.{setsPair, isValue, pairRemoved}
+use Rattle.demand1.specs.Changes.{isValue}
 use Rattle.demand1.specs.Turns.{fold-on, fold-at}
-use Rattle.demand1.specs.FatFrame.{apply-cases, apply-pairs}
+use Rattle.demand1.specs.FatFrame.{setsIn, removedIn, apply-cases, apply-pairs}
 
 -- a cluster has a pair or none
 value-or : {R : Type 0} (p : PairOf) → ((u : ℕ) → p ≡ Value u → R) → (isValue p ≡ false → p ≡ NoPair → R) → R
@@ -37,14 +37,14 @@ value-or NoPair g h = h refl refl
 
 module _ (w : W) (f : FatWrite) where
   abbrev removes : ℕ → ℕ → Bool
-  removes k i = setsPair f i && eqb (clusterAt f i) k && eqb (valueAt f i) 0
+  removes k i = setsIn f i && eqb (clusterAt f i) k && eqb (valueAt f i) 0
 
   -- where cluster k's pair isn't removed, an entry of it that sets 0 finds no pair
-  not-removed : (k i : ℕ) → pairRemoved f k ≡ false → i < 256 → setsPair f i ≡ true → clusterAt f i ≡ k → valueAt f i ≡ 0 → pairOf (f .pairs) k ≡ NoPair
-  unfolding pairRemoved isValue
+  not-removed : (k i : ℕ) → removedIn f k ≡ false → i < 256 → setsIn f i ≡ true → clusterAt f i ≡ k → valueAt f i ≡ 0 → pairOf (f .pairs) k ≡ NoPair
+  unfolding removedIn isValue
   not-removed k i e l q c z =
-      let a : removes k i ≡ true = and-of (setsPair f i && eqb (clusterAt f i) k) (eqb (valueAt f i) 0)
-      (and-of (setsPair f i) (eqb (clusterAt f i) k) q (eq-eqb (clusterAt f i) k c)) (eq-eqb (valueAt f i) 0 z) in
+      let a : removes k i ≡ true = and-of (setsIn f i && eqb (clusterAt f i) k) (eqb (valueAt f i) 0)
+      (and-of (setsIn f i) (eqb (clusterAt f i) k) q (eq-eqb (clusterAt f i) k c)) (eq-eqb (valueAt f i) 0 z) in
       let b = some-at (removes k) 256 0 i (omega arith) (omega arith) a in
       value-or (pairOf (f .pairs) k)
       (λ u p. absurd (true≢false (sym (and-of (some (removes k) 256 0) (isValue (pairOf (f .pairs) k)) b (rw p)) ∙ e)))
@@ -58,11 +58,11 @@ module _ (w : W) (f : FatWrite) where
     abbrev Stays : ℕ → W → Type 0
     Stays i v = (getD (v .st) n noSt ≡ getD (w .st) n noSt) × ((j : ℕ) → i ≤ j → clusterAt f j ≡ cluster → pairOf (v .pair) cluster ≡ pairOf (w .pair) cluster)
 
-    stay-pair : (i : ℕ) (v : W) → setsPair f i ≡ true → (j : ℕ) → i + 1 ≤ j → clusterAt f j ≡ cluster
+    stay-pair : (i : ℕ) (v : W) → setsIn f i ≡ true → (j : ℕ) → i + 1 ≤ j → clusterAt f j ≡ cluster
         → pairOf (setPair v (clusterAt f i) (valueAt f i) .pair) cluster ≡ pairOf (v .pair) cluster
     stay-pair i v q j l z = pairOf-other v (clusterAt f i) (valueAt f i) cluster (λ y. let e : clusterAt f i ≡ clusterAt f j = sym y ∙ sym z in omega arith)
 
-    stay-slot : pairRemoved f cluster ≡ false → (i : ℕ) (v : W) → i < 256 → Stays i v → setsPair f i ≡ true
+    stay-slot : removedIn f cluster ≡ false → (i : ℕ) (v : W) → i < 256 → Stays i v → setsIn f i ≡ true
         → getD (setPair v (clusterAt f i) (valueAt f i) .st) n noSt ≡ getD (w .st) n noSt
     stay-slot e i v l h q =
         let c = clusterAt f i in
@@ -75,13 +75,13 @@ module _ (w : W) (f : FatWrite) where
         (λ t. rw (setPair-st v c a (eqb-false a 0 t)) (h .0)))
         (λ y. slot-stands v c a n (λ z. eqb-false c cluster y (sym z ∙ ap stKey (h .0))) ∙ h .0)
 
-    stays-apply : pairRemoved f cluster ≡ false → (i : ℕ) (v : W) → i < 256 → Stays i v → Stays (i + 1) (applyAt f i v)
+    stays-apply : removedIn f cluster ≡ false → (i : ℕ) (v : W) → i < 256 → Stays i v → Stays (i + 1) (applyAt f i v)
     unfolding withFat1
     stays-apply e i v l h =
         apply-pairs w f (Stays (i + 1)) i v (h .0, λ j r z. h .1 j (omega arith) z) (λ m. (h .0, λ j r z. h .1 j (omega arith) z))
         (λ q. (stay-slot e i v l h q, λ j r z. stay-pair i v q j r z ∙ h .1 j (omega arith) z))
 
-    pub slot-stays : pairRemoved f cluster ≡ false → getD (fold (applyAt f) 256 0 w .st) n noSt ≡ getD (w .st) n noSt
+    pub slot-stays : removedIn f cluster ≡ false → getD (fold (applyAt f) 256 0 w .st) n noSt ≡ getD (w .st) n noSt
     slot-stays e = fold-on Stays (applyAt f) 256 (stays-apply e) 256 0 w (omega arith) (refl, λ j l z. refl) .0
 
     -- slot n is dropped by the entry that removes its cluster's pair
@@ -102,9 +102,9 @@ module _ (w : W) (f : FatWrite) where
           slots-length v c a ∙ h .3,
         ))
 
-    drops : (at : ℕ) → n < maxSlots → setsPair f at ≡ true → clusterAt f at ≡ cluster → valueAt f at ≡ 0 → (u : ℕ) → pairOf (w .pair) cluster ≡ Value u
+    drops : (at : ℕ) → n < maxSlots → setsIn f at ≡ true → clusterAt f at ≡ cluster → valueAt f at ≡ 0 → (u : ℕ) → pairOf (w .pair) cluster ≡ Value u
         → (v : W) → Ready v → getD (applyAt f at v .st) n noSt ≡ st0
-    unfolding applyAt setsPair slotOf isSlot dropAt withPair withSt
+    unfolding applyAt setsIn slotOf isSlot dropAt withPair withSt
     drops at l q z e u p v h =
         let c = clusterAt f at in
         let a = valueAt f at in
@@ -124,17 +124,17 @@ module _ (w : W) (f : FatWrite) where
         apply-cases f (λ u. getD (u .st) n noSt ≡ st0) i v (λ q. h) (λ q y. h) (λ q y o. h)
         (λ q y o. slot-stands v (clusterAt f i) (valueAt f i) n (λ e. used q (sym e ∙ ap stKey h)) ∙ h)
 
-    pub slot-dropped : Sound w → n < maxSlots → ((i : ℕ) → i < 256 → changedAt f i ≡ true → clusterAt f i ≡ 0 → ⊥) → pairRemoved f cluster ≡ true
+    pub slot-dropped : Sound w → n < maxSlots → ((i : ℕ) → i < 256 → changedAt f i ≡ true → clusterAt f i ≡ 0 → ⊥) → removedIn f cluster ≡ true
         → getD (fold (applyAt f) 256 0 w .st) n noSt ≡ st0
-    unfolding pairRemoved isValue
+    unfolding removedIn isValue
     slot-dropped h l used e =
         some-in (removes cluster) 256 0 (and-0 (some (removes cluster) 256 0) (isValue (pairOf (f .pairs) cluster)) e)
-        (λ at a b q. let q1 = and-0 (setsPair f at && eqb (clusterAt f at) cluster) (eqb (valueAt f at) 0) q in
-        let z = eqb-true (clusterAt f at) cluster (and-1 (setsPair f at) (eqb (clusterAt f at) cluster) q1) in
+        (λ at a b q. let q1 = and-0 (setsIn f at && eqb (clusterAt f at) cluster) (eqb (valueAt f at) 0) q in
+        let z = eqb-true (clusterAt f at) cluster (and-1 (setsIn f at) (eqb (clusterAt f at) cluster) q1) in
         value-or (pairOf (f .pairs) cluster)
         (λ u p. fold-at (applyAt f) 256 at Ready (λ v. getD (v .st) n noSt ≡ st0)
         (λ i v k d r. ready-apply at i z d v r)
-        (λ v r. drops at l (and-0 (setsPair f at) (eqb (clusterAt f at) cluster) q1) z (eqb-true (valueAt f at) 0 (and-1 (setsPair f at && eqb (clusterAt f at) cluster) (eqb (valueAt f at) 0) q)) u
+        (λ v r. drops at l (and-0 (setsIn f at) (eqb (clusterAt f at) cluster) q1) z (eqb-true (valueAt f at) 0 (and-1 (setsIn f at && eqb (clusterAt f at) cluster) (eqb (valueAt f at) 0) q)) u
         (rw same at p) v r)
         (λ i v k d r. stays-free at i z k (used i k) v r) (omega arith) w (refl, refl, h .one-slot, h .slots))
         (λ y p. absurd (true≢false (sym (and-1 (some (removes cluster) 256 0) (isValue (pairOf (f .pairs) cluster)) e) ∙ y))))

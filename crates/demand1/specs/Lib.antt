@@ -9,8 +9,10 @@ pub mod Fair
 pub mod StageFair
 pub mod StageFrame
 pub mod FatFrame
+pub mod FatOwn
 pub mod FatSlots
 pub mod FatSets
+pub mod RootOwn
 pub mod RootFrame
 pub mod RootSets
 pub mod DirFrame

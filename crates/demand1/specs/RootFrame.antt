@@ -1,5 +1,5 @@
 -- What a taken root sector changes.
-use Prim.Native.Nat.{ℕ, _*_, _<_}
+use Prim.Native.Nat.{ℕ, _+_, _*_, _<_}
 use mathlib.Core.Bool.{true, false, _&&_, true≢false}
 use mathlib.Core.List.{List}
 use mathlib.Core.Path.{_≡_, refl, sym, _∙_, ap}
@@ -20,8 +20,10 @@ use Rattle.state.specs.Setters.{withRec}
 use Rattle.state.specs.declared.w.W.{W}
 use Rattle.root_sectors.specs.Root.{RootWrite, slotAt, keptAt, rootNumber, placeOf, putAt, keepSlot, keepAt, rootState, rootChanged}
 use Rattle.judge.specs.Classify.{SectorWrite, rootOf, root}
+use Rattle.admits.specs.Bytes.{writtenSlot}
 use Rattle.demand1.specs.Sound.{Sound}
-use Rattle.demand1.specs.Changes.{Same, RootOnly, slotKept}
+use Rattle.demand1.specs.Changes.{Same, storesSlot, RootOnly}
+use Rattle.demand1.specs.RootOwn.{slotKept, stored-same}
 use Rattle.demand1.specs.Turns.{fold-in, none-at}
 
 -- root slot 0 has no record
@@ -104,8 +106,7 @@ module _ (w : W) (f : RootWrite) where
 
 module _ (x : SectorWrite) (w : W) (s : ℕ) where
   pub root-only : root x w s .number ≡ 0
-      → (Sound w → (i : ℕ) → i < 16 → keptAt (rootOf x w s) i ≡ true
-      → rootRec (root x w s .w .rec) (slotAt (rootOf x w s) i) ≡ record { found = true; e = take 32 (drop (i * 32) (x .written)) })
+      → (Sound w → (i : ℕ) → i < 16 → storesSlot x s i ≡ true → rootRec (root x w s .w .rec) (s * 16 + i) ≡ record { found = true; e = writtenSlot x i })
       → RootOnly x w s (root x w s)
   unfolding root rootState withRec
   root-only e keeps =
@@ -114,8 +115,9 @@ module _ (x : SectorWrite) (w : W) (s : ℕ) where
       record {
         state = rw q (fold-in (λ u. u ≡ withRec w (u .rec)) (keepAt f) 16 (only-keep w f) w refl);
         keeps = keeps;
-        recs = λ k n. rw q (fold-in (λ u. rootRec (u .rec) k ≡ rootRec (w .rec) k) (keepAt f) 16 (rec-keep w f k n) w refl);
-        places = λ n u e. rw q (fold-in (λ v. getD (v .rec) n noRec ≡ getD (w .rec) n noRec) (keepAt f) 16 (place-keep w f n u e) w refl);
+        recs = λ k n. rw q (fold-in (λ u. rootRec (u .rec) k ≡ rootRec (w .rec) k) (keepAt f) 16 (rec-keep w f k (sym (stored-same x w s k) ∙ n)) w refl);
+        places = λ n u k.
+            rw q (fold-in (λ v. getD (v .rec) n noRec ≡ getD (w .rec) n noRec) (keepAt f) 16 (place-keep w f n u (sym (stored-same x w s (getD (w .rec) n noRec .slot)) ∙ k)) w refl);
         ids = refl;
         area = refl;
       }

@@ -20,7 +20,10 @@ use Rattle.state.specs.declared.w.W.{W}
 use Rattle.clusters.specs.Clusters.{isNothing}
 use Rattle.root_sectors.specs.Root.{RootWrite, slotAt, isOwn, changedAt, slotNumber, refusedAt, keptAt, needsRec, rootNumber, placeOf, putAt, keepAt, rootState}
 use Rattle.judge.specs.Classify.{SectorWrite, rootOf, root}
+use Rattle.admits.specs.Bytes.{writtenSlot}
 use Rattle.demand1.specs.Sound.{Sound}
+use Rattle.demand1.specs.Changes.{storesSlot}
+use Rattle.demand1.specs.RootOwn.{stores-same}
 use Rattle.demand1.specs.Room.{fold-does}
 use Rattle.demand1.specs.RootFrame.{recAt, keep-cases, put-other}
 
@@ -107,11 +110,11 @@ module _ (x : SectorWrite) (w : W) (s : ℕ) where
       (λ q n. absurd (true≢false (sym (first-at (refusedAt f) 16 0 (ltb-true (first (refusedAt f) 16 0) 16 q)) ∙ ap not (eq-eqb (slotNumber f (first (refusedAt f) 16 0)) 0 n))))
       (λ q n. picked (ltb (freeRecs (w .rec)) (count (needsRec f) 16 0)) 15 0 0 n (λ t z. absurd (omega arith)) (λ t z. ltb-false (freeRecs (w .rec)) (count (needsRec f) 16 0) t))
 
-  pub root-keeps : root x w s .number ≡ 0 → Sound w → (i : ℕ) → i < 16 → keptAt (rootOf x w s) i ≡ true
-      → rootRec (root x w s .w .rec) (slotAt (rootOf x w s) i) ≡ record { found = true; e = take 32 (drop (i * 32) (x .written)) }
+  pub root-keeps : root x w s .number ≡ 0 → Sound w → (i : ℕ) → i < 16 → storesSlot x s i ≡ true
+      → rootRec (root x w s .w .rec) (s * 16 + i) ≡ record { found = true; e = writtenSlot x i }
   unfolding root rootState
   root-keeps e h i l k =
       let f = rootOf x w s in
       rw (eq-eqb (rootNumber f) 0 e)
       (fold-does (keepAt f) (needs f) (λ v. freeRecs (v .rec)) (λ i. Long f) (Keeps f) 16 (long-keep f) (does f) (λ i j v n d q. other-kept f i j v n ∙ d q)
-      (other-needs f) (has-room f) 16 0 w refl (h .recs) (fits e) i (omega arith) l k)
+      (other-needs f) (has-room f) 16 0 w refl (h .recs) (fits e) i (omega arith) l (sym (stores-same x w s i) ∙ k))

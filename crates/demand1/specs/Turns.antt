@@ -1,4 +1,4 @@
--- Laws of folds over numbers below m, of tests that none of them passes, and of rows that stay.
+-- Laws of folds over numbers below m, of tests of them, and of rows that stay.
 use Prim.Native.Nat.{ℕ, zero, suc, _+_, _≤_, _<_}
 use mathlib.Core.Bool.{Bool, false, true≢false}
 use mathlib.Core.List.{List, [], _∷_}
@@ -41,6 +41,12 @@ module _ {S : Type 0} (turn : ℕ → S → S) (m at : ℕ) (P Q : S → Type 0)
 -- where none is so, each is not
 pub none-at : (p : ℕ → Bool) (m i : ℕ) → some p m 0 ≡ false → i < m → p i ≡ false
 none-at p m i e l = either (p i) (λ q. absurd (true≢false (sym (some-at p m 0 i (omega arith) (omega arith) q) ∙ e))) (λ q. q)
+
+-- tests that say the same of each find the same
+pub some-same : (p q : ℕ → Bool) (n i : ℕ) → ((k : ℕ) → p k ≡ q k) → some p n i ≡ some q n i
+unfolding some
+some-same p q zero i f = refl
+some-same p q (suc n) i f = rw (f i, some-same p q n (i + 1) f)
 
 -- rows that stay are the list
 pub rows-still : (f : ℕ → ℕ → ℕ) (i : ℕ) (xs : List ℕ) → ((j id : ℕ) → f j id ≡ id) → xs ≡ rowsFrom f i xs

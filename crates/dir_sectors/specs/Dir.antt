@@ -16,8 +16,8 @@ use Rattle.slots.specs.Slots.{datesOnly, turnAt}
 use Rattle.state.specs.declared.w.St.{St}
 use Rattle.medium.specs.Reads.{movedRef}
 
--- A directory sector as it is judged: the table's columns, the directory (3 for INFO and DEBUG), the sector of its cluster, the sector shown
--- and written; and what is staged, with the medium.
+-- A directory sector as it is judged: the table's columns, the directory (3 for INFO and DEBUG), the sector of its cluster, the sector shown and
+-- written.
 pub record DirWrite : Type 0 where
   pub ids : List ℕ
   pub slots : List ℕ

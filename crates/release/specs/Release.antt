@@ -48,12 +48,12 @@ releaseId x st j id =
 unfoldable pub releasedIds : Lending → List St → List ℕ
 releasedIds x st = rows (releaseId x st) (x .ids)
 
--- a completed release leaves no pair, record, staged cluster, boot byte or FAT[1] of the session; the parked blocks' files are to be deleted
+-- a completed release leaves no pair, record, staged cluster, boot byte or FAT[1] of the session
 unfoldable pub emptied : W → W
 emptied w =
     withSt (withPair (withRec (withFat1 (withBoot w 0) 0) (replicate maxRecords rec0)) (replicate maxPairs pair0)) (replicate maxSlots st0)
 
--- nor a session, a time, an end held back; locks go only on a reset
+-- nor a session, a time, an end held back; locks go only on a reset, and the parked blocks' files are to be deleted
 unfoldable pub releasedState : W → Bool → W
 releasedState w reset =
     withLocks

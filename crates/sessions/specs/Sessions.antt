@@ -39,7 +39,7 @@ busReset x w =
 unfoldable pub busResetCall : Lending → W → Ended
 busResetCall x w = pick (fits x) (busReset x w) (turnedDown x w 10)
 
--- what a report or a start leaves
+-- what a report leaves
 pub record Reported : Type 0 where
   pub number : ℕ
   pub ids : List ℕ
