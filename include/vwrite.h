@@ -198,7 +198,7 @@ vwrite_chain vwrite_complete(const vwrite_state *w, uint32_t start, uint32_t siz
 vwrite_body vwrite_body_check(const vwrite_state *w, const uint16_t *fat, size_t nfat, const uint8_t *area, size_t narea, uint32_t start,
                               uint32_t size);
 
-/* The update file's CRC of more bytes, after c; from 0 for the first. */
+/* The update file's CRC of more bytes, after c; from 0xFFFF for the first. */
 uint16_t vwrite_crc16(uint16_t c, const uint8_t *bytes, size_t n);
 
 /* Is the strict long name of a root slot from 7 to 511 housekeeping; sector is the one that the slot is in. */
