@@ -23,6 +23,8 @@ struct Replay {
     session: Session,
     reasons: Reasons,
     form: Form,
+    /// Nothing was set in the state but by calls: then the reasons and the marks agree.
+    by_calls: bool,
 }
 
 impl Replay {
@@ -41,7 +43,11 @@ impl Replay {
             }
             (Answer::Number(n), Call::Gone(row)) => self.reasons.reported(*n, *row, line),
             (Answer::Ended(e), _) => self.reasons.ended(&self.session, &met, e.ended, line),
+            (_, Call::Set(_)) => self.by_calls = false,
             _ => {}
+        }
+        if self.by_calls {
+            self.reasons.agree(&self.session.files)?;
         }
         let number = match answer {
             Answer::Number(n) => Some(n),
@@ -73,7 +79,7 @@ impl Replay {
 
 fn run(input: impl BufRead, form: Form) -> Result<bool, String> {
     let mut out = BufWriter::new(std::io::stdout().lock());
-    let mut replay = Replay { session: Session::new(), reasons: Reasons::new(), form };
+    let mut replay = Replay { session: Session::new(), reasons: Reasons::new(), form, by_calls: true };
     let mut good = true;
     for (i, line) in input.split(b'\n').enumerate() {
         let line = line.map_err(|e| e.to_string())?;

@@ -107,6 +107,15 @@ impl Reasons {
         }
     }
 
+    /// What is told must agree with the marks: a file is handed exactly where it was turned, zeroed or named, and not reported gone.
+    pub fn agree(&self, files: &[File]) -> Result<(), String> {
+        let told = |r: Reason| r.turned && (r.zeroed || r.named) && !r.gone;
+        match self.rows.iter().zip(files).position(|(why, f)| told(why.reason) != (f.id & 0x7000 == 0x3000)) {
+            Some(j) => Err(format!("the reasons kept up for row {j} don't agree with its marks")),
+            None => Ok(()),
+        }
+    }
+
     /// One sentence on a file: what its state rests on, by line, or what is missing.
     pub fn sentence(&self, j: usize, handed: bool) -> String {
         let why = &self.rows[j];
