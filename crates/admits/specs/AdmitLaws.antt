@@ -36,16 +36,17 @@ use Rattle.medium.specs.Medium.{isMedium, hasBlock, nextFree}
 use Rattle.clusters.specs.Clusters.{isNothing, isLive, hostOwn, hostCluster}
 use Rattle.fat_sectors.specs.Fat.{zeroedAt, zeroesFile, hostNumber, ownNumber, entryNumber, needsPair, fatNumber}
 use Rattle.fat_sectors.specs.Values.{fat1Passes, hostValue}
-use Rattle.staging.specs.Blocks.{heldFor}
+use Rattle.staging.specs.Blocks.{isParked, heldFor}
 use Rattle.staging.specs.Staging.{Staged, slotFor, startStaging, putInto, intoBlock, withBlock, onMedium, inSlot, claimed, inFound, stage}
 use Rattle.judge.specs.Classify.{SectorWrite, Outcome, refused, unlessShown, bootPasses, boot, fatOf, fat, root, dir, dataNumber, otherData, ownerIn, stageOf, cluster, atPlace, classify}
 use Rattle.write.specs.Write.{Written, settled, unjudged, wholeSectors, tableFits, write}
 use Rattle.admits.specs.Bytes.{byteAsShown, onlyBytes}
-use Rattle.admits.specs.Admits.{isHost, asShown, bootAdmits, rootByte, needsPlace, rootAdmits, dirAdmits}
+use Rattle.admits.specs.Admits.{isHost, asShown, bootAdmits, rootByte, needsPlace, rootAdmits, dirAdmits, wholeBoth, fewFiles, admits}
 use Rattle.admits.specs.Admits.{entryCluster, entryValue, entryDiffers, fat1Admits, valueAdmits, fileZeroed, ownAdmits, entryOwner, entryAdmits, hasPair, newPair, fatAdmits}
-use Rattle.admits.specs.Admits.{isPlace, slotPlace, slotAs, slotBefore, asParked, needsBlock, takesNone, hintOf, slotAdmits, stageAdmits, clusterAdmits, placeAdmits, wholeBoth, fewFiles, admits}
+use Rattle.admits.specs.Admits.{isPlace, slotPlace, slotAs, slotBefore, asParked, needsBlock, takesNone, hintOf, someFree, slotAdmits, stageAdmits, clusterAdmits, placeAdmits}
 use Rattle.admits.specs.ByteLaws.{all-same, or-comm, kept-is, shown-byte, shown-only, shown-slot}
 use Rattle.admits.specs.ZeroLaws.{zero-pick, pass-pick, go-on, first-zero}
+use Rattle.admits.specs.SearchLaws.{search-found}
 use Rattle.admits.specs.RootLaws.{root-pass}
 use Rattle.admits.specs.DirLaws.{dir-pass}
 
@@ -131,18 +132,18 @@ module _ (x : SectorWrite) (w : W) (c s : ℕ) where
 
     abbrev blockAdmits : ℕ → Bool
     blockAdmits hint =
-        (not (needsBlock y s) || nextFree (x .fat) hint .found) && (eqb (heldFor y s) 0 || hasBlock (x .fat) (x .area) (heldFor y s))
+        (not (needsBlock y s) || someFree (x .fat) hint) && (eqb (heldFor y s) 0 || hasBlock (x .fat) (x .area) (heldFor y s))
 
     block-pass : (u : W) → isTaken (withBlock (stageOf x c s) u i y) ≡ blockAdmits (u .hint)
-    unfolding withBlock
+    unfolding withBlock isParked
     block-pass u =
         let n = nextFree (x .fat) (u .hint) in
         either (needsBlock y s)
-        (λ e. rw e (either (n .found) (λ f. rw f (into-pass (withHint u (n .hint)) (n .block))) (λ f. rw f)))
+        (λ e. rw (e, ← search-found (x .fat) (u .hint)) (either (n .found) (λ f. rw f (into-pass (withHint u (n .hint)) (n .block))) (λ f. rw f)))
         (λ e. rw e (into-pass u (heldFor y s)))
 
     slot-admits : (ss : List St) → isTaken (inSlot (stageOf x c s) (withSt w ss) i y) ≡ slotAdmits x w s y
-    unfolding inSlot onMedium slotAdmits
+    unfolding inSlot onMedium slotAdmits isParked
     slot-admits ss =
         either (asParked x y s)
         (λ p. rw p)
@@ -192,13 +193,13 @@ module _ (x : SectorWrite) (w : W) where
   unfolding otherData
   other-pass c = unless-pass (otherData x w c) false (data-pass (ownerIn x w c)) ∙ or-none (asShown x) false refl
 
-  boot-same : bootAdmits x ≡ bootPasses (x .shown) (x .written)
+  pub boot-same : bootAdmits x ≡ bootPasses (x .shown) (x .written)
   unfolding bootAdmits onlyBytes bootPasses
   boot-same =
       all-same _ _ 512 0
       (λ n l h. or-comm (byteAsShown x n) (eqb n 0x25) ∙ ap (λ (b : Bool). eqb n 0x25 || b) (kept-is x n))
 
-  boot-pass : eqb (boot x w .number) 0 ≡ bootAdmits x
+  pub boot-pass : eqb (boot x w .number) 0 ≡ bootAdmits x
   unfolding boot
   boot-pass = rw boot-same (either (bootPasses (x .shown) (x .written)) (λ q. rw q) (λ q. rw q))
 

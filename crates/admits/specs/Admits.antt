@@ -4,10 +4,11 @@ use Prim.Native.Nat.{ℕ, _+_, _*_, _/_, _%_}
 use mathlib.Core.Bool.{Bool, true, false, not, _&&_, _||_}
 use mathlib.Core.List.{List}
 use lib.Dec.{leb, ltb, eqb}
-use lib.ListN.{length, getD}
-use Rattle.loops.specs.Loops.{pick, all, some, count}
+use lib.ListN.{length, getD, replicate}
+use Rattle.loops.specs.Loops.{pick, all, some, count, first}
 use Rattle.loops.specs.declared.Found.{Found}
 use Rattle.loops.specs.declared.Found.the-variants.{At, Nothing}
+use Rattle.bits.specs.Bit.{bit}
 use Rattle.sector.specs.Bytes.{same, zeros}
 use Rattle.vdisk.specs.Drive.{placeOf, dirKindOf}
 use Rattle.vdisk.specs.Ids.{turned, kindOf}
@@ -28,11 +29,9 @@ use Rattle.state.specs.Staged.{slotOf, freeSlot}
 use Rattle.state.specs.declared.w.Pair.{Pair}
 use Rattle.state.specs.declared.w.St.{St}
 use Rattle.state.specs.declared.w.W.{W}
-use Rattle.medium.specs.Medium.{isMedium, hasBlock, nextFree}
+use Rattle.medium.specs.Medium.{isMedium, hasBlock}
 use Rattle.medium.specs.Reads.{sectorOf}
 use Rattle.clusters.specs.Clusters.{isLive, hostCluster}
-use Rattle.staging.specs.Blocks.{isParked, heldFor}
-use Rattle.staging.specs.Staging.{slotFor}
 use Rattle.judge.specs.Classify.{SectorWrite}
 use Rattle.admits.specs.Bytes.{onlyBytes, slotOfByte, placeInSlot, writtenSlot, slotAsShown, dateByte}
 
@@ -169,6 +168,10 @@ turnByte x k s n =
     eqb (placeInSlot n) 0 && eqb (getD (x .written) n 0) 0xE5 && not (eqb (getD (x .shown) n 0) 0xE5)
     && some (unturnedAt x k (s * 16 + slotOfByte n)) (length (x .ids)) 0
 
+-- file j is the one that a turn in this sector marks, the first unturned one of that directory and slot
+unfoldable pub turnsFile : SectorWrite → ℕ → ℕ → ℕ → Bool
+turnsFile x k s j = some (λ i. turnByte x k s (i * 32) && eqb (first (unturnedAt x k (s * 16 + i)) (length (x .ids)) 0) j) 16 0
+
 -- "dates are dropped; a turn ..; anything else is 9"
 unfoldable pub dirAdmits : SectorWrite → ℕ → ℕ → Bool
 dirAdmits x k s = onlyBytes x (λ n. dateByte (placeInSlot n) || turnByte x k s n)
@@ -181,29 +184,49 @@ isPlace Nothing = false
 unfoldable pub slotPlace : List St → ℕ → Found
 slotPlace ss c = pick (isPlace (slotOf ss c)) (slotOf ss c) (freeSlot ss)
 
--- that slot as the sector finds it
+-- that slot as the sector finds it; a new one has no sector staged, and no block held or parked
+abbrev pub newSlot : ℕ → St
+newSlot c = record { c = c; sealed = false; ro = 0; map = 0; blk = replicate 8 0 }
+
 unfoldable pub slotAs : List St → ℕ → Found → St
 slotAs ss c (At i) = getD ss i noSt
-slotAs ss c Nothing = slotFor c
+slotAs ss c Nothing = newSlot c
 
 abbrev pub slotBefore : W → ℕ → St
 slotBefore w c = slotAs (w .st) c (slotOf (w .st) c)
 
+-- a cluster has eight blocks of eight sectors: the number of the one held for sector s, 0 where none is, and whether it is parked
+abbrev pub heldIn : St → ℕ → ℕ
+heldIn y s = getD (y .blk) (s / 8) 0
+
+abbrev pub parkedIn : St → ℕ → Bool
+parkedIn y s = bit (y .ro) (s / 8)
+
 -- "in a parked block a sector equal to what `staged_read` shows is accepted unchanged"
 abbrev pub asParked : SectorWrite → St → ℕ → Bool
-asParked x y s = isParked y s && same (sectorOf (x .fat) (x .area) y s) (x .written)
+asParked x y s = parkedIn y s && same (sectorOf (x .fat) (x .area) y s) (x .written)
 
 -- no block is held for the sector, or a parked one: it goes to a new one
 abbrev pub needsBlock : St → ℕ → Bool
-needsBlock y s = eqb (heldFor y s) 0 || isParked y s
+needsBlock y s = eqb (heldIn y s) 0 || parkedIn y s
 
 -- an all-zero sector of a block not held takes no block
 abbrev pub takesNone : SectorWrite → St → ℕ → Bool
-takesNone x y s = eqb (heldFor y s) 0 && zeros (x .written)
+takesNone x y s = eqb (heldIn y s) 0 && zeros (x .written)
 
 -- the hint that a search for a new one starts from
 abbrev pub hintOf : W → ℕ
 hintOf w = pick (w .staging) (w .hint) 2
+
+-- "the first FAT entry of 0 from the hint": entry i is one that the search comes by; is there any; the first of them
+unfoldable pub freeFrom : List ℕ → ℕ → ℕ → Bool
+freeFrom fat hint i = leb hint i && leb 2 i && eqb (getD fat i 0) 0
+
+unfoldable pub someFree : List ℕ → ℕ → Bool
+someFree fat hint = some (freeFrom fat hint) (length fat) 0
+
+unfoldable pub firstFree : List ℕ → ℕ → ℕ
+firstFree fat hint = first (freeFrom fat hint) (length fat) 0
 
 -- Staging into slot y: as `staged_read` shows it, in a parked block; or without a block; or the medium has the block held, and one free where
 -- it is needed
@@ -212,8 +235,8 @@ slotAdmits x w s y =
     asParked x y s
     || takesNone x y s
     || (isMedium (x .fat) (x .area)
-    && (not (needsBlock y s) || nextFree (x .fat) (hintOf w) .found)
-    && (eqb (heldFor y s) 0 || hasBlock (x .fat) (x .area) (heldFor y s)))
+    && (not (needsBlock y s) || someFree (x .fat) (hintOf w))
+    && (eqb (heldIn y s) 0 || hasBlock (x .fat) (x .area) (heldIn y s)))
 
 unfoldable pub stageAdmits : SectorWrite → W → ℕ → ℕ → Bool
 stageAdmits x w c s = not (x .busy) && (isPlace (slotPlace (w .st) c) && slotAdmits x w s (slotBefore w c))

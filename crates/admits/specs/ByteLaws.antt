@@ -52,7 +52,7 @@ by-slots p =
     slots i = all (λ b. p (i * 32 + b)) 32 0
 
 -- the first that is so
-first-is : (p : ℕ → Bool) (m k : ℕ) → k ≤ m → ((j : ℕ) → j < k → p j ≡ false) → (k < m → p k ≡ true) → first p m 0 ≡ k
+pub first-is : (p : ℕ → Bool) (m k : ℕ) → k ≤ m → ((j : ℕ) → j < k → p j ≡ false) → (k < m → p k ≡ true) → first p m 0 ≡ k
 first-is p m k l f g =
     either (ltb (first p m 0) k)
     (λ q. let h = ltb-true (first p m 0) k q in

@@ -1,22 +1,25 @@
--- A directory sector is taken by its handler exactly where the rules admit its bytes.
+-- A directory sector is taken by its handler exactly where the rules admit its bytes, and then turns the files that they say.
 use Prim.Native.Nat.{ℕ, _+_, _*_, _<_, _≤_}
-use mathlib.Core.Bool.{Bool, true, false, not, _&&_, _||_, true≢false}
+use mathlib.Core.Bool.{Bool, true, false, not, _&&_, _||_, true≢false, false≢true}
 use mathlib.Core.Path.{_≡_, refl, sym, _∙_, ap}
 use native.Mathlib.Omega.{arith}
 use lib.Dec.{ltb, eqb}
 use lib.ListN.{length, getD}
 use borrow.Author.Tests.{ltb-true, ltb-false, lt-ltb, le-ltb, eqb-true, eqb-false, eq-eqb, ne-eqb, not-true}
-use Rattle.loops.specs.Loops.{all, some}
-use Rattle.loops.specs.Choices.{either, or-by, and-0, and-1, and-no}
+use Rattle.loops.specs.Loops.{all, some, first}
+use Rattle.loops.specs.Choices.{either, same-if, or-by, and-0, and-1, and-no}
 use Rattle.loops.specs.Facts.{all-at, some-in, some-at}
-use Rattle.loops.specs.Found.{find, found-by, find-lt, find-is, find-none, find-same}
+use Rattle.loops.specs.Found.{foundBelow, find, found-by, find-lt, find-is, find-none, find-same}
+use Rattle.loops.specs.Marks.{isAt, pickedBy}
+use Rattle.loops.specs.declared.Found.{Found}
+use Rattle.loops.specs.declared.Found.the-variants.{At, Nothing}
 use Rattle.vdisk.specs.Ids.{kindOf, idDirOf, dirOf as dirOfKind}
 use Rattle.slots.specs.Slots.{dateAt, datesOnly, turnAt}
 use Rattle.root_slots.specs.OrLaws.{or-none}
-use Rattle.dir_sectors.specs.Dir.{fileAt, rowOf, turnedBy, isFound, slotPasses, dirNumber}
+use Rattle.dir_sectors.specs.Dir.{fileAt, rowOf, turnedBy, isFound, slotPasses, dirNumber, turnsRow}
 use Rattle.judge.specs.Classify.{SectorWrite, dirOf}
-use Rattle.admits.specs.Bytes.{byteAsShown, onlyBytes, placeInSlot, inField, dateByte}
-use Rattle.admits.specs.Admits.{shownIn, unturnedAt, turnByte, dirAdmits}
+use Rattle.admits.specs.Bytes.{byteAsShown, onlyBytes, slotOfByte, placeInSlot, inField, dateByte}
+use Rattle.admits.specs.Admits.{shownIn, unturnedAt, turnByte, turnsFile, dirAdmits}
 use Rattle.admits.specs.ByteLaws.{all-same, all-first, eqb-sym, slot-is, byte-is, by-slots, slotDates, date-byte, dates-slot}
 use Rattle.admits.specs.ZeroLaws.{pass-pick}
 
@@ -45,6 +48,19 @@ found-some p n =
     (λ e. rw e (either (some p n 0)
     (λ t. some-in p n 0 t (λ j a b q. absurd (true≢false (sym q ∙ find-none p n j e (omega arith)))))
     (λ t. sym t)))
+
+-- what is found is the first that is so
+find-at : (p : ℕ → Bool) (n : ℕ) → isFound (find p n) ≡ true → find p n ≡ At (first p n 0)
+unfolding find foundBelow isFound
+find-at p n e =
+    either (ltb (first p n 0) n)
+    (λ q. rw q)
+    (λ q. let z : false ≡ true = rw q at e in absurd (false≢true z))
+
+not-found : (f : Found) → isFound f ≡ false → f ≡ Nothing
+unfolding isFound
+not-found (At i) e = absurd (true≢false e)
+not-found Nothing e = refl
 
 -- byte 0 is kept or turns a file, the others are kept or dates
 slot-tests : (kept wrote was file others : Bool)
@@ -139,23 +155,39 @@ module _ (x : SectorWrite) (k s : ℕ) where
       pass-pick (all (slotPasses (dirOf x k s)) 16 0) 9 refl
       ∙ sym (by-slots dirByte ∙ all-same (λ i. all (λ b. dirByte (i * 32 + b)) 32 0) (slotPasses (dirOf x k s)) 16 0 (λ i l h. slot-pass i))
 
+  abbrev wrote : ℕ → Bool
+  wrote i = eqb (getD (x .written) (i * 32) 0) 0xE5
+
+  abbrev was : ℕ → Bool
+  was i = eqb (getD (x .shown) (i * 32) 0) 0xE5
+
+  turn-byte : (i : ℕ) → turnByte x k s (i * 32) ≡ (wrote i && not (was i) && isFile i)
+  unfolding turnByte
+  turn-byte i =
+      let p : placeInSlot (i * 32) ≡ 0 = omega arith in
+      let q : slotOfByte (i * 32) ≡ i = omega arith in
+      rw (p, q)
+
+  found-turn : (i : ℕ) → isFound (turnedBy (dirOf x k s) i) ≡ true → turnByte x k s (i * 32) ≡ true
+  found-turn i e =
+      let t : (not (was i) && wrote i && others i && isFile i) ≡ true = rw (turned-same i, turn-first i) at e in
+      let a = and-0 (not (was i) && wrote i) (others i) (and-0 (not (was i) && wrote i && others i) (isFile i) t) in
+      rw (turn-byte i, and-1 (not (was i)) (wrote i) a, and-0 (not (was i)) (wrote i) a) (and-1 (not (was i) && wrote i && others i) (isFile i) t)
+
   -- a turn is more than dates
-  pub turn-dates : (i : ℕ) → isFound (turnedBy (dirOf x k s) i) ≡ true → slotDates x i ≡ false
+  turn-differs : (i : ℕ) → turnByte x k s (i * 32) ≡ true → slotDates x i ≡ false
   unfolding byteAsShown
-  turn-dates i e =
-      let t : (not was && wrote && others i && isFile i) ≡ true = rw (turned-same i, turn-first i) at e in
-      let a = and-0 (not was && wrote) (others i) (and-0 (not was && wrote && others i) (isFile i) t) in
-      let was-not = not-true was (and-0 (not was) wrote a) in
+  turn-differs i e =
+      let t : (wrote i && not (was i) && isFile i) ≡ true = rw (turn-byte i) at e in
+      let a = and-0 (wrote i && not (was i)) (isFile i) t in
+      let was-not = not-true (was i) (and-1 (wrote i) (not (was i)) a) in
       let q : i * 32 + 0 ≡ i * 32 = omega arith in
       let differs : byteAsShown x (i * 32 + 0) ≡ false =
-      rw (q, eqb-true (getD (x .written) (i * 32) 0) 0xE5 (and-1 (not was) wrote a)) (eqb-sym 0xE5 (getD (x .shown) (i * 32) 0) ∙ was-not) in
+      rw (q, eqb-true (getD (x .written) (i * 32) 0) 0xE5 (and-0 (wrote i) (not (was i)) a)) (eqb-sym 0xE5 (getD (x .shown) (i * 32) 0) ∙ was-not) in
       dates-first i ∙ rw differs
-    where
-      was : Bool
-      was = eqb (getD (x .shown) (i * 32) 0) 0xE5
 
-      wrote : Bool
-      wrote = eqb (getD (x .written) (i * 32) 0) 0xE5
+  pub turn-dates : (i : ℕ) → isFound (turnedBy (dirOf x k s) i) ≡ true → slotDates x i ≡ false
+  turn-dates i e = turn-differs i (found-turn i e)
 
   -- of a sector that is taken, a slot that turns no file differs in dates at most
   pub taken-dates : dirNumber (dirOf x k s) ≡ 0 → (i : ℕ) → i < 16 → isFound (turnedBy (dirOf x k s) i) ≡ false → slotDates x i ≡ true
@@ -166,3 +198,43 @@ module _ (x : SectorWrite) (k s : ℕ) where
       all-at (slotPasses (dirOf x k s)) 16 0 i a (omega arith) (omega arith) in
       or-by (datesOnly (x .shown) (x .written) (i * 32)) (isFound (turnedBy (dirOf x k s) i)) p
       (λ q. dates-slot x i ∙ q) (λ q. absurd (true≢false (sym q ∙ e)))
+
+  -- of a sector that is taken, the handler turns a file by a slot exactly where the slot's byte 0 is a turn
+  turn-found : dirNumber (dirOf x k s) ≡ 0 → (i : ℕ) → i < 16 → isFound (turnedBy (dirOf x k s) i) ≡ turnByte x k s (i * 32)
+  turn-found n i h =
+      same-if (isFound (turnedBy (dirOf x k s) i)) (turnByte x k s (i * 32)) (found-turn i)
+      (λ e. either (isFound (turnedBy (dirOf x k s) i)) (λ q. q) (λ q. absurd (true≢false (sym (taken-dates n i h q) ∙ turn-differs i e))))
+
+  abbrev firstFile : ℕ → ℕ
+  firstFile i = first (unturnedAt x k (s * 16 + i)) (length (x .ids)) 0
+
+  -- which is the first unturned one there
+  found-first : (i : ℕ) → isFound (turnedBy (dirOf x k s) i) ≡ true → turnedBy (dirOf x k s) i ≡ At (firstFile i)
+  unfolding turnedBy rowOf isFound
+  found-first i e =
+      either (ltb k 3 && turnAt (x .shown) (x .written) (i * 32))
+      (λ t. let f : find (fileAt (dirOf x k s) (s * 16 + i)) (length (x .ids)) ≡ find (unturnedAt x k (s * 16 + i)) (length (x .ids)) =
+      find-same (fileAt (dirOf x k s) (s * 16 + i)) (unturnedAt x k (s * 16 + i)) (length (x .ids)) (λ j h. unturned-same (s * 16 + i) j) in
+      rw (t, f) (find-at (unturnedAt x k (s * 16 + i)) (length (x .ids)) (rw (t, f) at e)))
+      (λ t. let z : false ≡ true = rw t at e in absurd (false≢true z))
+
+  -- so its rows are the files that the rules say
+  slot-turns : dirNumber (dirOf x k s) ≡ 0 → (i j : ℕ) → i < 16 → isAt j (turnedBy (dirOf x k s) i) ≡ (turnByte x k s (i * 32) && eqb (firstFile i) j)
+  unfolding isAt
+  slot-turns n i j h =
+      either (turnByte x k s (i * 32))
+      (λ e. rw (e, found-first i (turn-found n i h ∙ e)))
+      (λ e. rw (e, not-found (turnedBy (dirOf x k s) i) (turn-found n i h ∙ e)))
+
+  pub turns-file : dirNumber (dirOf x k s) ≡ 0 → (j : ℕ) → turnsRow (dirOf x k s) j ≡ turnsFile x k s j
+  unfolding turnsRow pickedBy turnsFile
+  turns-file n j =
+      same-if (some turned 16 0) (some turns 16 0)
+      (λ e. some-in turned 16 0 e (λ i l h q. some-at turns 16 0 i l h (sym (slot-turns n i j h) ∙ q)))
+      (λ e. some-in turns 16 0 e (λ i l h q. some-at turned 16 0 i l h (slot-turns n i j h ∙ q)))
+    where
+      turned : ℕ → Bool
+      turned i = isAt j (turnedBy (dirOf x k s) i)
+
+      turns : ℕ → Bool
+      turns i = turnByte x k s (i * 32) && eqb (firstFile i) j

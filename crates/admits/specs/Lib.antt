@@ -4,6 +4,7 @@ pub mod Admits
 pub mod Refusals
 pub mod ByteLaws
 pub mod ZeroLaws
+pub mod SearchLaws
 pub mod RootLaws
 pub mod DirLaws
 pub mod AdmitLaws

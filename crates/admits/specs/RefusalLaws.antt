@@ -32,16 +32,17 @@ use Rattle.fat_sectors.specs.Fat.{valueAt, changedAt, zeroesFile, hostNumber, o
 use Rattle.fat_sectors.specs.Values.{fat1Passes, hostValue}
 use Rattle.root_sectors.specs.Root.{changedAt as changedSlotAt, startFits, slotNumber, needsRec, rootNumber}
 use Rattle.dir_sectors.specs.Dir.{slotPasses, dirNumber}
-use Rattle.staging.specs.Blocks.{heldFor}
+use Rattle.staging.specs.Blocks.{isParked, heldFor}
 use Rattle.staging.specs.Staging.{Staged, slotFor, startStaging, putInto, intoBlock, withBlock, onMedium, inSlot, claimed, inFound, stage}
 use Rattle.judge.specs.Classify.{SectorWrite, Outcome, unlessShown, bootPasses, boot, fatOf, fat, rootOf, root, dirOf, dir, dataNumber, otherData, ownerIn, stageOf, cluster, atPlace, classify}
 use Rattle.write.specs.Write.{Written, write}
 use Rattle.admits.specs.Bytes.{byteAsShown, onlyBytes}
 use Rattle.admits.specs.Admits.{isHost, asShown, entryCluster, entryOwner, entryAdmits, rootByte}
-use Rattle.admits.specs.Admits.{isPlace, slotPlace, slotAs, slotBefore, asParked, needsBlock, takesNone, hintOf, wholeBoth, fewFiles, admits}
+use Rattle.admits.specs.Admits.{isPlace, slotPlace, slotAs, slotBefore, asParked, needsBlock, takesNone, hintOf, someFree, wholeBoth, fewFiles, admits}
 use Rattle.admits.specs.Refusals.{ownRefusal, entryRefusal, fatRefusal, rootRefusal, stageRefusal, dataRefusal, clusterRefusal, placeRefusal, refusal}
 use Rattle.admits.specs.ByteLaws.{by-slots, first-slot}
 use Rattle.admits.specs.ZeroLaws.{RefusedBy, never-refused, pick-refused, go-refused, first-refused}
+use Rattle.admits.specs.SearchLaws.{search-found}
 use Rattle.admits.specs.RootLaws.{slotBytes, slot-pass}
 use Rattle.admits.specs.AdmitLaws.{entry-pass, as-was, start-hint, whole-same, fits-same, write-pass}
 
@@ -105,7 +106,7 @@ module _ (x : SectorWrite) (w : W) (s : ℕ) where
 -- staging
 module _ (x : SectorWrite) (w : W) (c s : ℕ) where
   abbrev blockRefusal : St → ℕ → ℕ
-  blockRefusal y hint = pick (needsBlock y s && not (nextFree (x .fat) hint .found)) 18 17
+  blockRefusal y hint = pick (needsBlock y s && not (someFree (x .fat) hint)) 18 17
 
   abbrev mediumRefusal : St → ℕ
   mediumRefusal y = pick (not (isMedium (x .fat) (x .area))) 17 (blockRefusal y (hintOf w))
@@ -117,15 +118,15 @@ module _ (x : SectorWrite) (w : W) (c s : ℕ) where
         either (eqb (heldFor y s) 0 || hasBlock (x .fat) (x .area) (heldFor y s)) (λ e. rw e (never-refused 17)) (λ e. rw e (λ n. refl))
 
     block-number : (u : W) → RefusedBy (blockRefusal y (u .hint)) (withBlock (stageOf x c s) u i y .number)
-    unfolding withBlock
+    unfolding withBlock isParked
     block-number u =
         let n = nextFree (x .fat) (u .hint) in
         either (needsBlock y s)
-        (λ e. rw e (either (n .found) (λ f. rw f (into-number (withHint u (n .hint)) (n .block))) (λ f. rw f (λ q. refl))))
+        (λ e. rw (e, ← search-found (x .fat) (u .hint)) (either (n .found) (λ f. rw f (into-number (withHint u (n .hint)) (n .block))) (λ f. rw f (λ q. refl))))
         (λ e. rw e (into-number u (heldFor y s)))
 
     medium-number : (ss : List St) → RefusedBy (mediumRefusal y) (inSlot (stageOf x c s) (withSt w ss) i y .number)
-    unfolding inSlot onMedium
+    unfolding inSlot onMedium isParked
     medium-number ss =
         either (asParked x y s)
         (λ p. rw p (never-refused (mediumRefusal y)))

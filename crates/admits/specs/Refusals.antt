@@ -12,11 +12,11 @@ use Rattle.vdisk.specs.declared.owner.Own.{Own}
 use Rattle.vdisk.specs.declared.owner.Own.the-variants.{Reserved, Fixed, Dyn, Free}
 use Rattle.vdisk.specs.Owner.{ownerOf}
 use Rattle.state.specs.declared.w.W.{W}
-use Rattle.medium.specs.Medium.{isMedium, nextFree}
+use Rattle.medium.specs.Medium.{isMedium}
 use Rattle.clusters.specs.Clusters.{isLive}
 use Rattle.judge.specs.Classify.{SectorWrite}
 use Rattle.admits.specs.Bytes.{byteAsShown, onlyBytes, slotOfByte}
-use Rattle.admits.specs.Admits.{isHost, entryCluster, entryOwner, entryAdmits, rootByte, isPlace, slotPlace, slotBefore, needsBlock, hintOf, wholeBoth, fewFiles}
+use Rattle.admits.specs.Admits.{isHost, entryCluster, entryOwner, entryAdmits, rootByte, isPlace, slotPlace, slotBefore, needsBlock, hintOf, someFree, wholeBoth, fewFiles}
 
 -- "changed entries rise; each tries 4, 5, 13, 6; then 14": the number of an entry that isn't admitted
 unfoldable pub ownRefusal : SectorWrite → W → ℕ → ℕ → Own → ℕ
@@ -46,7 +46,7 @@ stageRefusal x w c s =
     pick (x .busy) 19
     (pick (not (isPlace (slotPlace (w .st) c))) 16
     (pick (not (isMedium (x .fat) (x .area))) 17
-    (pick (needsBlock (slotBefore w c) s && not (nextFree (x .fat) (hintOf w) .found)) 18 17)))
+    (pick (needsBlock (slotBefore w c) s && not (someFree (x .fat) (hintOf w))) 18 17)))
 
 -- Other data: "5 or 13"
 unfoldable pub dataRefusal : Own → ℕ

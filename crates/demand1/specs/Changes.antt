@@ -1,49 +1,37 @@
 -- What a taken sector changes, place by place, and that nothing else does (document 01, "Judging a sector"). o is how `classify` judged it.
-use Prim.Native.Nat.{ℕ, _+_, _-_, _*_, _<_, max}
+use Prim.Native.Nat.{ℕ, _+_, _*_, _<_, max}
 use mathlib.Core.Bool.{Bool, true, false, not, _&&_, _||_}
-use mathlib.Core.List.{List}
 use mathlib.Core.Path.{_≡_}
-use lib.Dec.{leb, ltb, eqb}
-use lib.ListN.{length, getD}
+use lib.Dec.{leb, eqb}
+use lib.ListN.{getD}
 use Rattle.loops.specs.Loops.{pick, some}
 use Rattle.loops.specs.Rows.{rows}
-use Rattle.loops.specs.declared.Found.the-variants.{At, Nothing}
 use Rattle.num.specs.Num.{wrappingNext}
 use Rattle.bits.specs.Bit.{setBit}
-use Rattle.sector.specs.Bytes.{zeros}
 use Rattle.vdisk.specs.Drive.{dirKindOf}
-use Rattle.vdisk.specs.Ids.{turned}
 use Rattle.vdisk.specs.declared.drive.Place.{Place}
 use Rattle.vdisk.specs.declared.drive.Place.the-variants.{Boot, Fat, Root, Data, Outside}
 use Rattle.vdisk.specs.declared.owner.Own.{Own}
 use Rattle.vdisk.specs.declared.owner.Own.the-variants.{Reserved, Fixed, Dyn, Free}
 use Rattle.vdisk.specs.declared.drive.DirKind.{DirKind}
 use Rattle.vdisk.specs.declared.drive.DirKind.the-variants.{Kind, NoDir}
-use Rattle.slots.specs.Slots.{refersTo}
 use Rattle.records.specs.Records.{noRec, rootRec}
 use Rattle.state.specs.State.{maxSlots, pair0, st0, noSt}
-use Rattle.state.specs.Setters.{withBoot, withFat1, withRec, withPair, withSt, withSession, withLast, withStaging, withStageT, withHint, withVer, withN}
+use Rattle.state.specs.Setters.{withBoot, withFat1, withRec, withPair, withSt, withSession, withLast, withN}
 use Rattle.state.specs.Pairs.{pairOf}
-use Rattle.state.specs.declared.w.St.{St}
 use Rattle.state.specs.declared.w.Stats.{Stats}
 use Rattle.state.specs.declared.w.W.{W}
 use Rattle.state.specs.declared.pairs.PairOf.{PairOf}
 use Rattle.state.specs.declared.pairs.PairOf.the-variants.{Value, NoPair}
-use Rattle.medium.specs.Medium.{isMedium, nextFree}
 use Rattle.medium.specs.Reads.{movedRef}
 use Rattle.clusters.specs.Clusters.{isLive}
-use Rattle.dir_sectors.specs.Dir.{turnsRow}
-use Rattle.staging.specs.Blocks.{heldFor, filledBlock, areaWith, holdingSt, writtenSt}
-use Rattle.judge.specs.Classify.{SectorWrite, Outcome, dirOf, ownerIn}
+use Rattle.judge.specs.Classify.{SectorWrite, Outcome, ownerIn}
 use Rattle.write.specs.Write.{Written}
 use Rattle.admits.specs.Bytes.{slotAsShown, writtenSlot}
-use Rattle.admits.specs.Admits.{entryCluster, entryValue, entryDiffers, entryOwner, slotPlace, slotBefore, asParked, needsBlock, takesNone, hintOf, isHost, asShown}
+use Rattle.admits.specs.Admits.{entryCluster, entryValue, entryDiffers, entryOwner, turnsFile, slotBefore, asParked, isHost, asShown}
 use Rattle.opens.specs.Opens.{opens}
 use Rattle.demand1.specs.Sound.{Sound}
-
--- w with these staging slots and this hint, staging on, and its time set to the clock
-unfoldable pub stagingState : W → List St → ℕ → W
-stagingState w ss hint = withHint (withStageT (withStaging (withSt w ss) true) (w .«now_ms»)) hint
+use Rattle.demand1.specs.StageChanges.{StageOnly}
 
 -- one more sector taken; the other counts stay
 pub record CountsTaken (n m : Stats) : Type 0 where
@@ -153,41 +141,10 @@ pub record RootOnly (x : SectorWrite) (w : W) (s : ℕ) (o : Outcome) : Type 0 w
 pub record DirOnly (x : SectorWrite) (w : W) (k s : ℕ) (o : Outcome) : Type 0 where
   pub state : o .w ≡ w
   pub ids : o .ids
-      ≡ rows (λ j id. pick (turnsRow (dirOf x k s) j)
+      ≡ rows (λ j id. pick (turnsFile x k s j)
       (pick (movedRef (x .fat) (x .area) (w .st) (getD (x .starts) j 0) (getD (x .sizes) j 0)) (setBit (setBit id 12) 15) (setBit id 12))
       id) (x .ids)
   pub area : o .area ≡ x .area
-
--- Staging, sector s of host cluster c: the block that it goes to, the one held, or "the first FAT entry of 0 from the hint if there is no block
--- or it is parked"
-unfoldable pub blockTo : SectorWrite → W → ℕ → ℕ → ℕ
-blockTo x w c s = pick (needsBlock (slotBefore w c) s) (nextFree (x .fat) (hintOf w) .block) (heldFor (slotBefore w c) s)
-
--- a search for a free block runs for data that needs one, on a medium
-unfoldable pub searches : SectorWrite → St → ℕ → Bool
-searches x y s = not (takesNone x y s) && (isMedium (x .fat) (x .area) && needsBlock y s)
-
--- "staging starts with search hint 2 if it was off": the search's where one ran, else 2 or as before
-unfoldable pub hintAfter : SectorWrite → W → ℕ → ℕ → ℕ
-hintAfter x w c s = pick (searches x (slotBefore w c) s) (nextFree (x .fat) (hintOf w) .hint) (hintOf w)
-
--- byte k of the data area is one of block b's
-unfoldable pub inBlock : ℕ → ℕ → Bool
-inBlock b k = leb ((b - 2) * 4096) k && ltb k ((b - 2) * 4096 + 4096)
-
--- the cluster's slot, the version, staging, its time and the hint; of the data area that block; "non-zero data marks turned files that it names
--- as moved"
-pub record StageOnly (x : SectorWrite) (w : W) (c s : ℕ) (o : Outcome) : Type 0 where
-  pub state : o .w ≡ withVer (stagingState w (o .w .st) (hintAfter x w c s)) (wrappingNext (w .ver))
-  pub slots : (i : ℕ) → (slotPlace (w .st) c ≡ At i → ⊥) → getD (o .w .st) i noSt ≡ getD (w .st) i noSt
-  pub slot : Sound w → (i : ℕ) → slotPlace (w .st) c ≡ At i → getD (o .w .st) i noSt
-      ≡ pick (takesNone x (slotBefore w c) s) (writtenSt (slotBefore w c) s) (holdingSt (slotBefore w c) s (blockTo x w c s))
-  pub ids : o .ids
-      ≡ rows (λ j id. pick (not (zeros (x .written)) && turned id && refersTo (x .written) (getD (x .starts) j 0) (getD (x .sizes) j 0)) (setBit id 15) id) (x .ids)
-  pub area : o .area
-      ≡ pick (takesNone x (slotBefore w c) s) (x .area) (areaWith (x .area) (blockTo x w c s) (filledBlock (x .area) (slotBefore w c) s (x .written)))
-  pub bytes : (k : ℕ) → inBlock (blockTo x w c s) k ≡ false → getD (o .area) k 0 ≡ getD (x .area) k 0
-  pub long : length (o .area) ≡ length (x .area)
 
 abbrev pub differs : SectorWrite → Type 0
 differs x = asShown x ≡ false

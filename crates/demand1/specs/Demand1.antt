@@ -19,14 +19,14 @@ use Rattle.state.specs.Staged.{slotOf, freeSlot}
 use Rattle.state.specs.declared.w.St.{St}
 use Rattle.state.specs.declared.w.Stats.{Stats}
 use Rattle.state.specs.declared.w.W.{W}
-use Rattle.staging.specs.Staging.{slotFor}
 use Rattle.judge.specs.Classify.{SectorWrite, classify}
 use Rattle.write.specs.Write.{Written, write}
-use Rattle.admits.specs.Admits.{isPlace, admits}
+use Rattle.admits.specs.Admits.{isPlace, newSlot, admits}
 use Rattle.admits.specs.Refusals.{refusal}
 use Rattle.opens.specs.Opens.{opens}
 use Rattle.demand1.specs.Sound.{Sound}
-use Rattle.demand1.specs.Changes.{stagingState, hintAfter, Taken, Same, AtPlace}
+use Rattle.demand1.specs.StageChanges.{stagingState, hintAfter}
+use Rattle.demand1.specs.Changes.{Taken, Same, AtPlace}
 
 -- the numbers of `write`: 0 where the sector is taken, and its refusals
 unfoldable pub isListed : ℕ → Bool
@@ -50,7 +50,7 @@ sectorIn Outside = 0
 
 -- the staging slots with cluster c's claimed: as they were where it has its own, else with the first free one set for it
 unfoldable pub claimAt : List St → ℕ → Found → List St
-claimAt ss c (At i) = set ss i (slotFor c)
+claimAt ss c (At i) = set ss i (newSlot c)
 claimAt ss c Nothing = ss
 
 unfoldable pub claimedSlots : List St → ℕ → List St

@@ -8,11 +8,13 @@ use Rattle.loops.specs.Loops.{some}
 use Rattle.loops.specs.Choices.{either}
 use Rattle.loops.specs.Facts.{some-in}
 use Rattle.loops.specs.Marks.{isAt, pickedBy}
+use Rattle.loops.specs.Rows.{rows-same}
 use Rattle.loops.specs.declared.Found.{Found}
 use Rattle.loops.specs.declared.Found.the-variants.{At, Nothing}
 use Rattle.state.specs.declared.w.W.{W}
 use Rattle.dir_sectors.specs.Dir.{DirWrite, turnedBy, isFound, dirNumber, turnsRow, turnId, dirId, dirIds, dirChanged}
 use Rattle.judge.specs.Classify.{SectorWrite, dirOf, dir}
+use Rattle.admits.specs.DirLaws.{turns-file}
 use Rattle.demand1.specs.Changes.{Same, DirOnly}
 use Rattle.demand1.specs.Turns.{none-at, rows-still}
 
@@ -33,7 +35,12 @@ none-turned d j e =
 module _ (x : SectorWrite) (w : W) (k s : ℕ) where
   pub dir-only : dir x w k s .number ≡ 0 → DirOnly x w k s (dir x w k s)
   unfolding dir dirIds dirId turnId
-  dir-only e = record { state = refl; ids = rw (eq-eqb (dirNumber (dirOf x k s)) 0 e); area = refl }
+  dir-only e =
+      record {
+        state = refl;
+        ids = rw (eq-eqb (dirNumber (dirOf x k s)) 0 e) (rows-same (dirId (dirOf x k s) (x .fat) (x .area) (w .st)) _ (x .ids) (λ j id h. rw (turns-file x k s e j)));
+        area = refl;
+      }
 
   pub dir-same : dir x w k s .number ≡ 0 → dir x w k s .changed ≡ false → Same x w (dir x w k s)
   unfolding dir dirIds dirId dirChanged

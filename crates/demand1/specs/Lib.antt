@@ -1,10 +1,12 @@
 -- Demand 1: a sound state, what a taken sector changes, the statement over the definition of a whole call, and its proof.
 pub mod Sound
+pub mod StageChanges
 pub mod Changes
 pub mod Demand1
 pub mod Turns
 pub mod Room
 pub mod Area
+pub mod SlotLaws
 pub mod Fair
 pub mod StageFair
 pub mod StageFrame

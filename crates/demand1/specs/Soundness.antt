@@ -1,5 +1,5 @@
 -- The state first stands sound, and `write` keeps it so.
-use Prim.Native.Nat.{ℕ, _+_, _<_}
+use Prim.Native.Nat.{ℕ, _+_, _/_, _<_}
 use mathlib.Core.Bool.{not, _&&_, _||_}
 use mathlib.Core.List.{List}
 use mathlib.Core.Path.{_≡_, refl, sym, _∙_, ap}
@@ -10,7 +10,7 @@ use borrow.Author.Tests.{eqb-true, eqb-false}
 use Rattle.loops.specs.Choices.{either, pick-has}
 use Rattle.loops.specs.Facts.{fold-keeps}
 use Rattle.loops.specs.Found.{found-by}
-use Rattle.loops.specs.Keyed.{noTwice-set}
+use Rattle.loops.specs.Keyed.{set-has, noTwice-set}
 use Rattle.loops.specs.declared.Found.the-variants.{At, Nothing}
 use Rattle.sector.specs.Bytes.{same, zeros}
 use Rattle.vdisk.specs.Drive.{placeOf, dirKindOf}
@@ -26,7 +26,7 @@ use Rattle.state.specs.Setters.{withBoot, withFat1, withRec, withSt, withStagin
 use Rattle.state.specs.Staged.{slotOf, freeSlot}
 use Rattle.state.specs.PairLaws.{slotOf-lt, freeSlot-lt}
 use Rattle.state.specs.LookupLaws.{stKey, NoSlotTwice, slotOf-none, noTwice-initial, noSlotTwice-initial}
-use Rattle.state.specs.SetPairLaws.{pairs-length, slots-length, noTwice-setPair, noSlotTwice-setPair, setPair-only}
+use Rattle.state.specs.SetPairLaws.{st-by, pairs-length, slots-length, noTwice-setPair, noSlotTwice-setPair, setPair-only}
 use Rattle.state.specs.declared.w.St.{St}
 use Rattle.state.specs.declared.w.W.{W}
 use Rattle.medium.specs.Medium.{isMedium, hasBlock, nextFree}
@@ -39,7 +39,7 @@ use Rattle.judge.specs.Classify.{SectorWrite, Outcome, refused, unlessShown, bo
 use Rattle.write.specs.Write.{Written, takenState, refusedState, settledState, settled, unjudged, wholeSectors, tableFits, write}
 use Rattle.admits.specs.Admits.{isHost, hintOf}
 use Rattle.demand1.specs.Sound.{Sound}
-use Rattle.demand1.specs.Changes.{stagingState}
+use Rattle.demand1.specs.StageChanges.{stagingState}
 use Rattle.demand1.specs.StageFair.{started, as-was}
 use Rattle.demand1.specs.FatFrame.{apply-cases}
 use Rattle.demand1.specs.RootFrame.{recAt, keep-cases}
@@ -55,6 +55,7 @@ sound-initial first =
       pairs = length-replicate maxPairs pair0;
       recs = length-replicate maxRecords rec0;
       slots = length-replicate maxSlots st0;
+      blocks = λ i l. rw (getD-replicate maxSlots i st0 noSt l);
       one-pair = noTwice-initial first;
       one-rec = noRecTwice-empty;
       one-slot = noSlotTwice-initial first;
@@ -67,34 +68,55 @@ sound-as v u p r s h =
       pairs = rw p (h .pairs);
       recs = rw r (h .recs);
       slots = rw s (h .slots);
+      blocks = rw s (h .blocks);
       one-pair = rw p (h .one-pair);
       one-rec = rw r (h .one-rec);
       one-slot = rw s (h .one-slot);
     }
 
 -- staging slots
+abbrev Blocks : List St → Type 0
+Blocks ss = (i : ℕ) → i < maxSlots → length (getD ss i noSt .blk) ≡ 8
+
+blocks-set : (ss : List St) (i : ℕ) (z : St) → Blocks ss → length (z .blk) ≡ 8 → Blocks (set ss i z)
+blocks-set ss i z h e k l = set-has (λ (y : St). length (y .blk) ≡ 8) noSt ss i k z (λ q. e) (h k l)
+
 abbrev Slots : List St → Type 0
-Slots ss = (length ss ≡ maxSlots) × NoSlotTwice ss
+Slots ss = (length ss ≡ maxSlots) × (NoSlotTwice ss × Blocks ss)
 
 sound-slots : (v u : W) → v .pair ≡ u .pair → v .rec ≡ u .rec → Slots (v .st) → Sound u → Sound v
 sound-slots v u p r s h =
-    record { pairs = rw p (h .pairs); recs = rw r (h .recs); slots = s .0; one-pair = rw p (h .one-pair); one-rec = rw r (h .one-rec); one-slot = s .1 }
+    record {
+      pairs = rw p (h .pairs);
+      recs = rw r (h .recs);
+      slots = s .0;
+      blocks = s .1 .1;
+      one-pair = rw p (h .one-pair);
+      one-rec = rw r (h .one-rec);
+      one-slot = s .1 .0;
+    }
 
 -- one set for the cluster that it was for
-slots-over : (ss : List St) (i : ℕ) (z : St) → Slots ss → i < maxSlots → z .c ≡ getD ss i noSt .c → Slots (set ss i z)
-slots-over ss i z h l e = (
+slots-over : (ss : List St) (i : ℕ) (z : St) → Slots ss → i < maxSlots → z .c ≡ getD ss i noSt .c → length (z .blk) ≡ 8 → Slots (set ss i z)
+slots-over ss i z h l e b = (
   length-set ss i z ∙ h .0,
-  noTwice-set stKey noSt maxSlots ss i z (h .1)
-      (λ j m n q. either (eqb (z .c) 0) (eqb-true (z .c) 0)
-      (λ t. let o = eqb-false (z .c) 0 t in absurd (n (h .1 j i m l (λ y. o (sym q ∙ y)) (q ∙ e))))),
+  (
+    noTwice-set stKey noSt maxSlots ss i z (h .1 .0)
+        (λ j m n q. either (eqb (z .c) 0) (eqb-true (z .c) 0)
+        (λ t. let o = eqb-false (z .c) 0 t in absurd (n (h .1 .0 j i m l (λ y. o (sym q ∙ y)) (q ∙ e))))),
+    blocks-set ss i z (h .1 .1) b,
+  ),
 )
 
 -- one claimed for a cluster that has none
 slots-claim : (ss : List St) (i c : ℕ) → Slots ss → slotOf ss c ≡ Nothing → Slots (set ss i (slotFor c))
 slots-claim ss i c h e = (
   length-set ss i (slotFor c) ∙ h .0,
-  noTwice-set stKey noSt maxSlots ss i (slotFor c) (h .1)
-      (λ j m n q. either (eqb c 0) (eqb-true c 0) (λ t. absurd (slotOf-none ss c j e (eqb-false c 0 t) m q))),
+  (
+    noTwice-set stKey noSt maxSlots ss i (slotFor c) (h .1 .0)
+        (λ j m n q. either (eqb c 0) (eqb-true c 0) (λ t. absurd (slotOf-none ss c j e (eqb-false c 0 t) m q))),
+    blocks-set ss i (slotFor c) (h .1 .1) refl,
+  ),
 )
 
 module _ (x : SectorWrite) (w : W) (h : Sound w) where
@@ -102,7 +124,7 @@ module _ (x : SectorWrite) (w : W) (h : Sound w) where
     abbrev SoundStage : Staged → Type 0
     SoundStage r = Sound (r .w)
 
-    module _ (ss : List St) (i : ℕ) (y : St) (g : Slots ss) (l : i < maxSlots) (own : y .c ≡ getD ss i noSt .c) where
+    module _ (ss : List St) (i : ℕ) (y : St) (g : Slots ss) (l : i < maxSlots) (own : y .c ≡ getD ss i noSt .c) (long : length (y .blk) ≡ 8) where
       at-slots : (hint : ℕ) → Sound (stagingState w ss hint)
       unfolding stagingState withHint withStageT withStaging withSt
       at-slots hint = sound-slots (stagingState w ss hint) w refl refl g h
@@ -111,7 +133,7 @@ module _ (x : SectorWrite) (w : W) (h : Sound w) where
       unfolding intoBlock putInto stagingState withHint withStageT withStaging withSt withVer holdingSt
       sound-into hint b =
           pick-has SoundStage (eqb (heldFor y s) 0 || hasBlock (x .fat) (x .area) (heldFor y s)) (putInto (stageOf x c s) (stagingState w ss hint) i y b) _
-          (sound-slots _ w refl refl (slots-over ss i (holdingSt y s b) g l own) h) (at-slots hint)
+          (sound-slots _ w refl refl (slots-over ss i (holdingSt y s b) g l own (length-set (y .blk) (s / 8) b ∙ long)) h) (at-slots hint)
 
       sound-block : (hint : ℕ) → SoundStage (withBlock (stageOf x c s) (stagingState w ss hint) i y)
       unfolding withBlock stagingState withHint
@@ -128,7 +150,7 @@ module _ (x : SectorWrite) (w : W) (h : Sound w) where
           (sound-slots (withSt w ss) w refl refl g h)
           (rw (started w ss)
           (pick-has SoundStage (eqb (heldFor y s) 0 && zeros (x .written)) _ _
-          (sound-slots _ w refl refl (slots-over ss i (writtenSt y s) g l own) h)
+          (sound-slots _ w refl refl (slots-over ss i (writtenSt y s) g l own long) h)
           (pick-has SoundStage (isMedium (x .fat) (x .area)) _ _ (sound-block (hintOf w)) (at-slots (hintOf w)))))
 
     sound-claimed : slotOf (w .st) c ≡ Nothing → SoundStage (claimed (stageOf x c s) w (freeSlot (w .st)))
@@ -136,8 +158,8 @@ module _ (x : SectorWrite) (w : W) (h : Sound w) where
     sound-claimed e =
         found-by (freeSlot (w .st))
         (λ i f. let l = freeSlot-lt (w .st) i f in
-        rw f (sound-slot (set (w .st) i (slotFor c)) i (slotFor c) (slots-claim (w .st) i c (h .slots, h .one-slot) e) l
-        (sym (ap stKey (getD-set-same (w .st) i (slotFor c) noSt (rw (h .slots) l))))))
+        rw f (sound-slot (set (w .st) i (slotFor c)) i (slotFor c) (slots-claim (w .st) i c (h .slots, (h .one-slot, h .blocks)) e) l
+        (sym (ap stKey (getD-set-same (w .st) i (slotFor c) noSt (rw (h .slots) l)))) refl))
         (λ f. rw f h)
 
     sound-stage : SoundStage (stage (stageOf x c s) w)
@@ -145,7 +167,7 @@ module _ (x : SectorWrite) (w : W) (h : Sound w) where
     sound-stage =
         pick-has SoundStage (x .busy) _ _ h
         (found-by (slotOf (w .st) c)
-        (λ i e. rw e (rw (as-was w) at (sound-slot (w .st) i (getD (w .st) i noSt) (h .slots, h .one-slot) (slotOf-lt (w .st) c i e) refl)))
+        (λ i e. rw e (rw (as-was w) at (sound-slot (w .st) i (getD (w .st) i noSt) (h .slots, (h .one-slot, h .blocks)) (slotOf-lt (w .st) c i e) refl (h .blocks i (slotOf-lt (w .st) c i e)))))
         (λ e. rw e (sound-claimed e)))
 
   sound-fat : (f : FatWrite) → Sound (fatState f w)
@@ -160,6 +182,7 @@ module _ (x : SectorWrite) (w : W) (h : Sound w) where
         pairs = pairs-length v c a ∙ g .pairs;
         recs = rw (setPair-only v c a .rec) (g .recs);
         slots = slots-length v c a ∙ g .slots;
+        blocks = st-by v c a Blocks (g .blocks) (λ j k e o t. blocks-set (v .st) k st0 (g .blocks) refl);
         one-pair = noTwice-setPair v c a (g .one-pair);
         one-rec = rw (setPair-only v c a .rec) (g .one-rec);
         one-slot = noSlotTwice-setPair v c a (g .one-slot);
@@ -169,7 +192,7 @@ module _ (x : SectorWrite) (w : W) (h : Sound w) where
   sound-put : (v : W) (k : ℕ) (r : Rec) → Sound v → NoRecTwice (set (v .rec) k r) → Sound (withRec v (set (v .rec) k r))
   unfolding withRec
   sound-put v k r g t =
-      record { pairs = g .pairs; recs = length-set (v .rec) k r ∙ g .recs; slots = g .slots; one-pair = g .one-pair; one-rec = t; one-slot = g .one-slot }
+      record { pairs = g .pairs; recs = length-set (v .rec) k r ∙ g .recs; slots = g .slots; blocks = g .blocks; one-pair = g .one-pair; one-rec = t; one-slot = g .one-slot }
 
   -- a record goes over its root slot's own, or to a free place where it has none
   put-over : (v : W) (k : ℕ) (r : Rec) → Sound v → recIdx (v .rec) (r .slot) ≡ At k → NoRecTwice (set (v .rec) k r)

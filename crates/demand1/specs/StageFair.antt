@@ -9,7 +9,7 @@ use Rattle.loops.specs.Choices.{either, pick-has, pick-by, and-no}
 use Rattle.loops.specs.Found.{found-by}
 use Rattle.loops.specs.declared.Found.{Found}
 use Rattle.loops.specs.declared.Found.the-variants.{Nothing}
-use Rattle.sector.specs.Bytes.{same, zeros}
+use Rattle.sector.specs.Bytes.{same}
 use Rattle.state.specs.State.{noSt}
 use Rattle.state.specs.Setters.{withSt, withStaging, withHint, withStageT}
 use Rattle.state.specs.Staged.{slotOf, freeSlot}
@@ -21,7 +21,8 @@ use Rattle.staging.specs.Blocks.{isParked, heldFor}
 use Rattle.staging.specs.Staging.{Staged, refused, slotFor, startStaging, putInto, intoBlock, withBlock, onMedium, inSlot, claimed, inFound, stage}
 use Rattle.judge.specs.Classify.{SectorWrite, stageOf, outcomeOf}
 use Rattle.admits.specs.Admits.{isPlace, slotAs, slotBefore, takesNone, needsBlock, hintOf}
-use Rattle.demand1.specs.Changes.{stagingState, searches, hintAfter}
+use Rattle.admits.specs.SearchLaws.{search-hint}
+use Rattle.demand1.specs.StageChanges.{stagingState, searches, hintMoved, hintAfter}
 use Rattle.demand1.specs.Demand1.{isListed, claimAt, claimedSlots}
 use Rattle.demand1.specs.Fair.{Fair}
 
@@ -49,8 +50,8 @@ module _ (x : SectorWrite) (w : W) (c s : ℕ) (y : St) (before : slotBefore w c
 
   pub hint-searched : takesNone x y s ≡ false → isMedium (x .fat) (x .area) ≡ true → needsBlock y s ≡ true
       → hintAfter x w c s ≡ nextFree (x .fat) (hintOf w) .hint
-  unfolding hintAfter searches
-  hint-searched z m q = rw (before, z, m, q)
+  unfolding hintAfter searches hintMoved
+  hint-searched z m q = rw (before, z, m, q) (sym (search-hint (x .fat) (hintOf w)))
 
 module _ (x : SectorWrite) (w : W) (c s : ℕ) where
   abbrev pub claimedIn : W
@@ -79,7 +80,7 @@ module _ (x : SectorWrite) (w : W) (c s : ℕ) where
         (fair-taken (putInto (stageOf x c s) (stagingState w ss hint) i y b) refl) (fair-17 hint e)
 
     fair-block : takesNone x y s ≡ false → isMedium (x .fat) (x .area) ≡ true → FairStage (withBlock (stageOf x c s) (stagingState w ss (hintOf w)) i y)
-    unfolding withBlock stagingState withHint
+    unfolding withBlock stagingState withHint isParked
     fair-block z m =
         let n = nextFree (x .fat) (hintOf w) in
         pick-by FairStage (needsBlock y s) _ _

@@ -1,6 +1,6 @@
 -- What a staged sector changes.
 use Prim.Native.Nat.{ℕ, _<_}
-use mathlib.Core.Bool.{Bool, true, false, not, _&&_, _||_, true≢false, false≢true}
+use mathlib.Core.Bool.{Bool, true, false, not, _&&_, _||_, true≢false}
 use mathlib.Core.List.{List}
 use mathlib.Core.Path.{_≡_, refl, sym, _∙_, ap, subst}
 use native.Mathlib.Omega.{arith}
@@ -24,6 +24,7 @@ use Rattle.state.specs.State.{maxSlots, noSt}
 use Rattle.state.specs.Setters.{withSt, withStaging, withHint, withStageT, withVer}
 use Rattle.state.specs.Staged.{slotOf, freeSlot}
 use Rattle.state.specs.PairLaws.{slotOf-lt, freeSlot-lt}
+use Rattle.state.specs.LookupLaws.{slotOf-is}
 use Rattle.state.specs.declared.w.St.{St}
 use Rattle.state.specs.declared.w.W.{W}
 use Rattle.medium.specs.Medium.{isMedium, hasBlock, nextFree}
@@ -33,10 +34,13 @@ use Rattle.staging.specs.Blocks.{isParked, heldFor, blockAt, filledBlock, holdi
 use Rattle.staging.specs.BlockLaws.{bit-le}
 use Rattle.staging.specs.Staging.{Staged, refused, slotFor, moveId, movedIds, putInto, intoBlock, withBlock, onMedium, inSlot, claimed, inFound, stage}
 use Rattle.judge.specs.Classify.{SectorWrite, stageOf, outcomeOf}
-use Rattle.admits.specs.Admits.{isPlace, slotPlace, slotAs, slotBefore, asParked, takesNone, hintOf}
+use Rattle.admits.specs.Admits.{isPlace, slotPlace, slotAs, slotBefore, asParked, needsBlock, takesNone, hintOf}
+use Rattle.admits.specs.SearchLaws.{search-found, search-block}
 use Rattle.demand1.specs.Sound.{Sound}
-use Rattle.demand1.specs.Changes.{Same, StageOnly, blockTo, stagingState, hintAfter}
-use Rattle.demand1.specs.Area.{area-length, area-other, filled-length, free-has}
+use Rattle.demand1.specs.StageChanges.{stagingState, blockTo, hintAfter, StageOnly}
+use Rattle.demand1.specs.Changes.{Same}
+use Rattle.demand1.specs.Area.{area-length, area-own, area-other, filled-length, filled-at, free-has}
+use Rattle.demand1.specs.SlotLaws.{written-set, holding-set}
 use Rattle.demand1.specs.Turns.{rows-still}
 use Rattle.demand1.specs.StageFair.{started, as-was, hint-none, hint-held, hint-searched}
 
@@ -45,6 +49,15 @@ place-lt : (ss : List St) (c i : ℕ) → slotPlace ss c ≡ At i → i < maxSlo
 unfolding slotPlace isPlace
 place-lt ss c i =
     found-by (slotOf ss c) (λ k e. rw e (λ (q : At k ≡ At i). let n : k ≡ i = cc in rw (← n) (slotOf-lt ss c k e))) (λ e. rw e (freeSlot-lt ss i))
+
+-- the slot as a sector finds it is the cluster's own, and has eight block numbers
+before-own : (w : W) (c : ℕ) → slotBefore w c .c ≡ c
+unfolding slotAs
+before-own w c = found-by (slotOf (w .st) c) (λ i e. rw e (slotOf-is (w .st) c i e .0)) (λ e. rw e)
+
+before-long : (w : W) (c : ℕ) → Sound w → length (slotBefore w c .blk) ≡ 8
+unfolding slotAs
+before-long w c h = found-by (slotOf (w .st) c) (λ i e. rw e (h .blocks i (slotOf-lt (w .st) c i e))) (λ e. rw e)
 
 module _ (x : SectorWrite) (w : W) (c s : ℕ) where
   abbrev movesRow : ℕ → ℕ → Bool
@@ -88,8 +101,9 @@ module _ (x : SectorWrite) (w : W) (c s : ℕ) where
         state = rw (hint-none x w c s y before z) (e ∙ rw e);
         slots = λ k h. rw e (others (writtenSt y s) k h);
         ids = j ∙ ids-zero (and-1 (eqb (heldFor y s) 0) (zeros (x .written)) z);
-        slot = λ g k h. rw (e, before, z) (the-slot (writtenSt y s) g k h);
-        area = rw (before, z) a;
+        slot = λ g k h. rw (e, the-slot (writtenSt y s) g k h, before) (written-set x c s (blockTo x w c s) y (rw before at (before-own w c)) z);
+        none = λ t. a;
+        filled = λ t. absurd (true≢false (sym (rw before z) ∙ t));
         bytes = λ k h. rw a;
         long = rw a;
       },
@@ -100,16 +114,19 @@ module _ (x : SectorWrite) (w : W) (c s : ℕ) where
         → ((heldFor y s ≡ 0 → ⊥) → InArea (x .area) (heldFor y s)) → Done (putInto (stageOf x c s) (stagingState w ss hint) i y b)
     unfolding putInto stagingState withVer withHint withStageT withStaging withSt
     done-put hint b t z e m f =
-        let l = filled-length (x .area) y s (x .written) wide f in
+        let l = filled-length x y s wide f in
+        let bs = filledBlock (x .area) y s (x .written) in
         let a = block-in (x .fat) (x .area) b m in (
           λ n q. record {
             state = rw t;
             slots = λ k h. others (holdingSt y s b) k h;
             ids = ids-moved;
-            slot = λ g k h. rw (before, z, ← e) (the-slot (holdingSt y s b) g k h);
-            area = rw (before, z, ← e);
-            bytes = λ k h. area-other (x .area) (filledBlock (x .area) y s (x .written)) b l a k (rw e h);
-            long = area-length (x .area) (filledBlock (x .area) y s (x .written)) b l a;
+            slot = λ g k h. rw (the-slot (holdingSt y s b) g k h, before, ← e)
+                (holding-set x c s b y (rw before at (before-own w c)) (rw before at (before-long w c g)) z);
+            none = λ t. absurd (true≢false (sym t ∙ rw before z));
+            filled = λ t k h. rw (before, ← e) (area-own (x .area) bs b l a k h ∙ filled-at x y s wide f k h);
+            bytes = λ k h. area-other (x .area) bs b l a k (rw e h);
+            long = area-length (x .area) bs b l a;
           },
           λ n q. absurd (true≢false q),
         )
@@ -130,29 +147,29 @@ module _ (x : SectorWrite) (w : W) (c s : ℕ) where
         (λ q. done-put hint b t z e (m q) (λ h. block-in (x .fat) (x .area) (heldFor y s) (held-in q h)))
         (λ q. not-taken (refused (stageOf x c s) 17 (stagingState w ss hint)) (λ r. omega arith))
 
-    to-free : (eqb (heldFor y s) 0 || isParked y s) ≡ true → nextFree (x .fat) (hintOf w) .block ≡ blockTo x w c s
+    to-free : needsBlock y s ≡ true → nextFree (x .fat) (hintOf w) .found ≡ true → nextFree (x .fat) (hintOf w) .block ≡ blockTo x w c s
     unfolding blockTo
-    to-free q = rw (before, q)
+    to-free q f = rw (before, q) (search-block (x .fat) (hintOf w) (sym (search-found (x .fat) (hintOf w)) ∙ f))
 
-    to-held : (eqb (heldFor y s) 0 || isParked y s) ≡ false → heldFor y s ≡ blockTo x w c s
+    to-held : needsBlock y s ≡ false → heldFor y s ≡ blockTo x w c s
     unfolding blockTo
     to-held q = rw (before, q)
 
     done-block : takesNone x y s ≡ false → isMedium (x .fat) (x .area) ≡ true → Done (withBlock (stageOf x c s) (stagingState w ss (hintOf w)) i y)
-    unfolding withBlock stagingState withHint
+    unfolding withBlock stagingState withHint isParked
     done-block z m =
         let n = nextFree (x .fat) (hintOf w) in
-        pick-by Done (eqb (heldFor y s) 0 || isParked y s)
+        pick-by Done (needsBlock y s)
         (pick (n .found) (intoBlock (stageOf x c s) (stagingState w ss (n .hint)) i y (n .block)) (refused (stageOf x c s) 18 (stagingState w ss (n .hint))))
         (intoBlock (stageOf x c s) (stagingState w ss (hintOf w)) i y (heldFor y s))
         (λ q. pick-by Done (n .found) (intoBlock (stageOf x c s) (stagingState w ss (n .hint)) i y (n .block)) (refused (stageOf x c s) 18 (stagingState w ss (n .hint)))
-        (λ f. done-into (n .hint) (n .block) (hint-searched x w c s y before z m q) z (to-free q) (λ r. free-has (x .fat) (x .area) (hintOf w) m f))
+        (λ f. done-into (n .hint) (n .block) (hint-searched x w c s y before z m q) z (to-free q f) (λ r. free-has (x .fat) (x .area) (hintOf w) m f))
         (λ f. not-taken (refused (stageOf x c s) 18 (stagingState w ss (n .hint))) (λ r. omega arith)))
         (λ q. let h : heldFor y s ≡ 0 → ⊥ = eqb-false (heldFor y s) 0 (or-no (eqb (heldFor y s) 0) (isParked y s) q .0) in
         done-into (hintOf w) (heldFor y s) (hint-held x w c s y before q) z (to-held q) (λ r. held-in r h))
 
     done-slot : Done (inSlot (stageOf x c s) (withSt w ss) i y)
-    unfolding inSlot onMedium withVer stagingState withSt withHint withStageT withStaging
+    unfolding inSlot onMedium withVer stagingState withSt withHint withStageT withStaging isParked
     done-slot =
         pick-by Done (isParked y s && same (sectorOf (x .fat) (x .area) y s) (x .written)) _ _
         (λ q. (

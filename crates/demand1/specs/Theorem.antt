@@ -26,7 +26,8 @@ use Rattle.admits.specs.AdmitLaws.{write-pass}
 use Rattle.admits.specs.RefusalLaws.{write-number}
 use Rattle.opens.specs.Opens.{unchangedIn, unchangedAt, datesIn, datesAt, opensAt, opens}
 use Rattle.opens.specs.OpenLaws.{write-opens}
-use Rattle.demand1.specs.Changes.{stagingState, Taken, InCluster, AtPlace}
+use Rattle.demand1.specs.StageChanges.{stagingState}
+use Rattle.demand1.specs.Changes.{Taken, InCluster, AtPlace}
 use Rattle.demand1.specs.Demand1.{isListed, claimedState, errorFor, countsFor, leftState, Refused, Demand1}
 use Rattle.demand1.specs.Fair.{Fair, fair-refused}
 use Rattle.demand1.specs.Soundness.{sound-write}

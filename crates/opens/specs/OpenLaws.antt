@@ -24,7 +24,7 @@ use Rattle.medium.specs.Medium.{isMedium, hasBlock, nextFree}
 use Rattle.fat_sectors.specs.Fat.{fatNumber}
 use Rattle.root_sectors.specs.Root.{rootNumber, keptAt, rootChanged}
 use Rattle.dir_sectors.specs.Dir.{turnedBy, isFound, dirNumber, dirChanged}
-use Rattle.staging.specs.Blocks.{heldFor}
+use Rattle.staging.specs.Blocks.{isParked, heldFor}
 use Rattle.staging.specs.Staging.{Staged, slotFor, startStaging, putInto, intoBlock, withBlock, onMedium, inSlot, claimed, inFound, stage}
 use Rattle.judge.specs.Classify.{SectorWrite, Outcome, refused, unlessShown, bootPasses, boot, fatOf, fat, rootOf, root, dirOf, dir}
 use Rattle.judge.specs.Classify.{dataNumber, otherData, ownerIn, stageOf, cluster, atPlace, classify}
@@ -120,7 +120,7 @@ module _ (x : SectorWrite) (w : W) where
     into-opens u i y b = pick-by Opened (eqb (heldFor y s) 0 || hasBlock (x .fat) (x .area) (heldFor y s)) _ _ (λ e n. refl) (λ e n. never 17 refl n)
 
     medium-opens : (u : W) (i : ℕ) (y : St) → Opened (onMedium (stageOf x c s) u i y)
-    unfolding onMedium withBlock
+    unfolding onMedium withBlock isParked
     medium-opens u i y =
         pick-by Opened (takesNone x y s) _ _ (λ e n. refl)
         (λ e. pick-by Opened (isMedium (x .fat) (x .area)) _ _
@@ -130,7 +130,7 @@ module _ (x : SectorWrite) (w : W) where
         (λ m n. never 17 refl n))
 
     slot-opens : (u : W) (i : ℕ) (y : St) → inSlot (stageOf x c s) u i y .number ≡ 0 → inSlot (stageOf x c s) u i y .changed ≡ not (asParked x y s)
-    unfolding inSlot
+    unfolding inSlot isParked
     slot-opens u i y = either (asParked x y s) (λ e. rw e (λ n. refl)) (λ e. rw e (medium-opens (startStaging u) i y))
 
     claim-opens : claimed (stageOf x c s) w (freeSlot (w .st)) .number ≡ 0
