@@ -9,18 +9,18 @@ use Rattle.state.specs.Setters.{withRw, withWantRw, withEndAt}
 use Rattle.state.specs.declared.w.W.{W}
 use Rattle.release.specs.Undecided.{isUndecided}
 use Rattle.release.specs.Release.{releaseAllCall, releaseCall}
-use Rattle.sessions.specs.Poll.{endDue, pollCall}
+use Rattle.sessions.specs.Poll.{pollCall}
 use Rattle.sessions.specs.Sessions.{busResetCall, modeReset, setReadOnly as readOnlySet, reportGone, start}
 use Rattle.demand1.specs.Sound.{Sound}
 use Rattle.demand1.specs.Demand1.{Demand1}
-use Rattle.demand1_sessions.specs.Ends.{MayEnd, clockSet, tickEnds}
+use Rattle.demand1_sessions.specs.Ends.{MayEnd, clockSet, heldEndDue, tickEnds}
 use Rattle.demand1_sessions.specs.Demand1.{Reports, Starts}
 use Rattle.demand3.specs.Step.{Session, Medium, Call, write, poll, release, releaseAll, busReset, resetMode, setReadOnly, report, refusedStart, sectorOf, lent}
 
 -- a tick of a session, where t is its state with the clock set
 abbrev pub TicksListed : Table → Session → ℕ → Bool → Medium → W → Type 0
 TicksListed t s clock mounted m v =
-    MayEnd (lent t s m) (s .w) v (pick (endDue v) (withEndAt v 0) v) false (s .w .rw) (tickEnds v mounted) (pollCall (lent t s m) (s .w) clock mounted)
+    MayEnd (lent t s m) (s .w) v (pick (heldEndDue v) (withEndAt v 0) v) false (s .w .rw) (tickEnds v mounted) (pollCall (lent t s m) (s .w) clock mounted)
 
 -- each call as `step` makes it, and what demand 1 says of it
 unfoldable pub DoesListed : Table → Session → Call → Type 0

@@ -2,23 +2,21 @@
 use Prim.Native.Nat.{ℕ}
 use mathlib.Core.List.{List, [], _∷_}
 use mathlib.Core.Path.{_≡_, refl, _∙_}
-use mathlib.Core.Bool.{Bool, true, false}
+use mathlib.Core.Bool.{Bool}
 use lib.Dec.{eqb}
 use borrow.Author.Tests.{eqb-true, eqb-false}
-use Rattle.loops.specs.Loops.{pick}
 use Rattle.loops.specs.Choices.{either, pick-has}
 use Rattle.file_table.specs.Table.{Table}
 use Rattle.state.specs.State.{initial}
-use Rattle.state.specs.Setters.{withRw, withWantRw, withBoot, withFat1, withRec, withPair, withSt, withLocks, withNowMs, withEndAt}
+use Rattle.state.specs.Setters.{withRw, withWantRw, withLocks, withNowMs, withEndAt}
 use Rattle.state.specs.declared.w.W.{W}
 use Rattle.release.specs.Undecided.{isUndecided}
-use Rattle.release.specs.Release.{Lending, Ended, emptied, fits}
-use Rattle.sessions.specs.Poll.{endDue, isQuiet}
+use Rattle.release.specs.Release.{Lending, Ended}
 use Rattle.sessions.specs.Sessions.{modeReset, setReadOnly as readOnlySet, start}
 use Rattle.demand1.specs.Sound.{Sound}
 use Rattle.demand1.specs.Soundness.{sound-initial, sound-as}
 use Rattle.demand1.specs.Theorem.{demand1}
-use Rattle.demand1_sessions.specs.Ends.{MayEnd, clockSet, tickEnds}
+use Rattle.demand1_sessions.specs.Ends.{upTo400, Empty, MayEnd, clockSet, heldEndDue, quietDue, tickEnds}
 use Rattle.demand1_sessions.specs.Theorem.{demand-1-calls}
 use Rattle.demand3.specs.Step.{Session, Call, write, poll, release, releaseAll, busReset, resetMode, setReadOnly, report, refusedStart, sectorOf, lent, step}
 use Rattle.demand3.specs.History.{History, event, next, run, begun}
@@ -36,10 +34,10 @@ does t s (setReadOnly on) = demand-1-calls .set-read-only (s .w) on
 does t s (report j) = demand-1-calls .report (s .ids) j
 does t s (refusedStart other e) = demand-1-calls .starts other (s .w)
 
--- an emptied state has nothing twice
-sound-emptied : (w : W) → Sound (emptied w)
-unfolding emptied initial withBoot withFat1 withRec withPair withSt
-sound-emptied w = sound-as (emptied w) (initial 0) refl refl refl (sound-initial 0)
+-- an empty state has its places as the first one does
+sound-empty : (v : W) → Empty v → Sound v
+unfolding initial
+sound-empty v e = sound-as v (initial 0) (e .pair) (e .rec) (e .st) (sound-initial 0)
 
 sound-end-at : (w : W) (n : ℕ) → Sound w → Sound (withEndAt w n)
 unfolding withEndAt
@@ -63,16 +61,16 @@ how-by off f g h = h refl
 how-tick : (t : W) (mounted : Bool) → How (tickEnds t mounted)
 unfolding tickEnds
 how-tick t mounted =
-    pick-has How (endDue t) _ _ (pick-has How mounted 0 1 none runs) (pick-has How (isQuiet t mounted) _ 0 (pick-has How (isUndecided t) 2 1 off runs) none)
+    pick-has How (heldEndDue t) _ _ (pick-has How mounted 0 1 none runs) (pick-has How (quietDue t mounted) _ 0 (pick-has How (isUndecided t) 2 1 off runs) none)
 
 -- a call that may end the session leaves the arrays as they were, or empty
 sound-ends : (x : Lending) (w t still : W) (reset mode : Bool) (how : ℕ) (e : Ended) → MayEnd x w t still reset mode how e → How how
     → Sound w → Sound t → Sound still → Sound (e .w)
 sound-ends x w t still reset mode how e m by a b c =
-    either (fits x)
+    either (upTo400 x)
     (λ f. how-by by
     (λ h. rw (m .idle f h .state) c)
-    (λ h. rw (m .ran f h .empty) (sound-emptied (e .w)))
+    (λ h. sound-empty (e .w) (m .ran f h .empty))
     (λ h. rw (m .put-off f h .state) (sound-end-at t _ b)))
     (λ f. rw (m .refused (eqb-false (e .number) 0 (m .admitted ∙ f)) .state) a)
 
@@ -91,7 +89,7 @@ sound-step t (poll clock mounted m) s h =
     let v = clockSet (s .w) clock mounted in
     let k = sound-clock (s .w) clock mounted h in
     sound-ends _ _ _ _ _ _ _ _ (demand-1-calls .poll (lent t s m) (s .w) clock mounted) (how-tick v mounted) h k
-    (pick-has Sound (endDue v) (withEndAt v 0) v (sound-end-at v 0 k) k)
+    (pick-has Sound (heldEndDue v) (withEndAt v 0) v (sound-end-at v 0 k) k)
 sound-step t (release m) s h = sound-ends _ _ _ _ _ _ _ _ (demand-1-calls .release (lent t s m) (s .w)) (pick-has How (isUndecided (s .w)) 2 1 off runs) h h h
 sound-step t (releaseAll reset m) s h = sound-ends _ _ _ _ _ _ _ _ (demand-1-calls .release-all (lent t s m) (s .w) reset) runs h h h
 sound-step t (busReset m) s h = sound-ends _ _ _ _ _ _ _ _ (demand-1-calls .bus-reset (lent t s m) (s .w)) runs h h h

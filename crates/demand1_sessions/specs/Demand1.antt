@@ -24,10 +24,15 @@ use Rattle.medium.specs.Reads.{stagedAnswer, stagedBytes}
 use Rattle.chains.specs.Chains.{completeOf}
 use Rattle.release.specs.Undecided.{isUndecided}
 use Rattle.release.specs.Release.{Lending, releaseAllCall, releaseCall}
-use Rattle.sessions.specs.Poll.{endDue, pollCall}
+use Rattle.sessions.specs.Poll.{pollCall}
 use Rattle.sessions.specs.Sessions.{setReadOnly, modeReset, busResetCall, Reported, reportGone, Started, start}
 use Rattle.body.specs.Body.{bodyOf}
-use Rattle.demand1_sessions.specs.Ends.{MayEnd, clockSet, tickEnds}
+use Rattle.file_table.specs.declared.VF.{VF}
+use Rattle.session_calls.specs.Calls.{FindsFile}
+use Rattle.session_calls.specs.declared.HandedAnswer.{HandedAnswer}
+use Rattle.state_calls.specs.Answers.{filesOwner}
+use Rattle.state_calls.specs.declared.OwnAnswer.{OwnAnswer}
+use Rattle.demand1_sessions.specs.Ends.{MayEnd, clockSet, heldEndDue, tickEnds}
 
 -- report gone of a row: 10 for more than 400 files, 21 for a row that isn't in the table or whose file isn't handed, which leave the marks; taken, the
 -- file was handed, and the one mark is set
@@ -51,10 +56,17 @@ pub record Reads (fat area : List ℕ) (ps : List Pair) (recs : List Rec) (st : 
   pub body : bodyOf fat area ps st c size .no ≡ pick (ltb size 128) 11 (pick (completeOf ps st c size .found) 0 20)
   pub unchecked : (bodyOf fat area ps st c size .no ≡ 0 → ⊥) → bodyOf fat area ps st c size .valid ≡ false
 
+-- the finder and `owner` turn down more than 400 files by 10, and then say nothing else
+pub record TableReads (files : List VF) (first c : ℕ) (found : HandedAnswer) : Type 0 where
+  pub finder : found .no ≡ pick (leb (length files) 400) 0 10
+  pub none-found : (found .no ≡ 0 → ⊥) → (found .found ≡ false) × (found .row ≡ 0)
+  pub owner : filesOwner files first c .no ≡ pick (leb (length files) 400) 0 10
+  pub unowned : (filesOwner files first c .no ≡ 0 → ⊥) → (filesOwner files first c .owner ≡ 0) × (filesOwner files first c .row ≡ 0)
+
 pub record Demand1Calls : Type 0 where
   pub poll : (x : Lending) (w : W) (clock : ℕ) (mounted : Bool)
       → MayEnd x w (clockSet w clock mounted)
-      (pick (endDue (clockSet w clock mounted)) (withEndAt (clockSet w clock mounted) 0) (clockSet w clock mounted))
+      (pick (heldEndDue (clockSet w clock mounted)) (withEndAt (clockSet w clock mounted) 0) (clockSet w clock mounted))
       false (w .rw) (tickEnds (clockSet w clock mounted) mounted) (pollCall x w clock mounted)
   pub release : (x : Lending) (w : W) → MayEnd x w w w false (w .rw) (pick (isUndecided w) 2 1) (releaseCall x w)
   pub release-all : (x : Lending) (w : W) (reset : Bool) → MayEnd x w w w reset (w .rw) 1 (releaseAllCall x w reset)
@@ -65,3 +77,4 @@ pub record Demand1Calls : Type 0 where
   pub report : (ids : List ℕ) (j : ℕ) → Reports ids j (reportGone ids j)
   pub starts : (t : Table) (w : W) → Starts t w (start t w)
   pub reads : (fat area : List ℕ) (ps : List Pair) (recs : List Rec) (st : List St) (c s : ℕ) (out d : List ℕ) (slot size : ℕ) → Reads fat area ps recs st c s out d slot size
+  pub table-reads : (files : List VF) (first c : ℕ) (found : HandedAnswer) → FindsFile files found → TableReads files first c found

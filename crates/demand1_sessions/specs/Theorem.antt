@@ -1,22 +1,25 @@
 -- Demand 1 of the calls beside `write`.
-use Prim.Native.Nat.{ℕ, _<_}
-use mathlib.Core.Bool.{Bool, true, false, not, _&&_}
-use mathlib.Core.List.{List}
-use mathlib.Core.Path.{_≡_, refl, sym}
+use Prim.Native.Nat.{ℕ}
+use mathlib.Core.Bool.{Bool, false, not, _&&_}
+use mathlib.Core.List.{List, map}
+use mathlib.Core.Path.{_≡_, refl, sym, _∙_}
 use native.Mathlib.Omega.{arith}
 use lib.Dec.{eqb, leb, ltb}
-use lib.ListN.{length, getD, set}
-use borrow.Author.Tests.{ltb-true, ltb-false, le-leb, lt-leb}
+use lib.ListN.{length, getD}
+use borrow.Author.Tests.{ltb-true, ltb-false, leb-true, leb-false, lt-ltb, le-ltb, le-leb, lt-leb}
 use Rattle.loops.specs.Loops.{pick}
 use Rattle.loops.specs.Choices.{either, and-0, and-1}
 use Rattle.loops.specs.Found.{found-by}
-use Rattle.bits.specs.Bit.{setBit}
 use Rattle.vdisk.specs.Ids.{handed}
+use Rattle.vdisk.specs.Owner.{ownerOf}
+use Rattle.vdisk.specs.declared.owner.Own.{Own}
+use Rattle.vdisk.specs.declared.owner.Own.the-variants.{Reserved, Fixed, Dyn, Free}
 use Rattle.file_table.specs.Table.{Table, maxFiles, accepts}
+use Rattle.file_table.specs.declared.VF.{VF}
+use Rattle.files.specs.Files.{startOf, sizeOf}
 use Rattle.records.specs.declared.Rec.{Rec}
 use Rattle.names.specs.Names.{firstHostSlot}
 use Rattle.root_slots.specs.RootSlots.{strictOf}
-use Rattle.state.specs.State.{initial}
 use Rattle.state.specs.Staged.{slotOf}
 use Rattle.state.specs.declared.w.Pair.{Pair}
 use Rattle.state.specs.declared.w.St.{St}
@@ -25,7 +28,10 @@ use Rattle.medium.specs.Reads.{foundAnswer, stagedAnswer, stagedBytes}
 use Rattle.chains.specs.Chains.{completeOf}
 use Rattle.sessions.specs.Sessions.{setReadOnly, modeReset, reportGone, start}
 use Rattle.body.specs.Body.{bodyOf}
-use Rattle.demand1_sessions.specs.Demand1.{Reports, Starts, Reads, Demand1Calls}
+use Rattle.session_calls.specs.Calls.{FindsHanded, FindsFile}
+use Rattle.session_calls.specs.declared.HandedAnswer.{HandedAnswer}
+use Rattle.state_calls.specs.Answers.{ownAnswer, filesOwner}
+use Rattle.demand1_sessions.specs.Demand1.{Reports, Starts, Reads, TableReads, Demand1Calls}
 use Rattle.demand1_sessions.specs.EndLaws.{all-ends, release-ends, reset-ends, poll-ends}
 
 module _ (ids : List ℕ) (j : ℕ) where
@@ -95,6 +101,50 @@ module _ (fat area : List ℕ) (ps : List Pair) (recs : List Rec) (st : List St)
   pub reads-well : Reads fat area ps recs st c s out d slot size
   reads-well = record { staged = staged-well; unread = unread-well; strict = strict-well; unnamed = unnamed-well; body = body-well; unchecked = unchecked-well }
 
+-- whoever owns the cluster, its number is no refusal
+owner-no : (o : Own) → ownAnswer o .no ≡ 0
+unfolding ownAnswer
+owner-no Reserved = refl
+owner-no Fixed = refl
+owner-no (Dyn j) = refl
+owner-no Free = refl
+
+module _ (files : List VF) (first c : ℕ) where
+  abbrev few : Bool
+  few = leb (length files) 400
+
+  finder-well : (found : HandedAnswer) → FindsFile files found → found .no ≡ pick few 0 10
+  unfolding FindsHanded
+  finder-well found f =
+      either few
+      (λ e. let l = leb-true (length files) 400 e in
+      rw e (either (found .found) (λ q. f .1 l q .0) (λ q. f .2 l q .0)))
+      (λ e. let l = leb-false (length files) 400 e in rw (e, f .0 l))
+
+  none-well : (found : HandedAnswer) → FindsFile files found → (found .no ≡ 0 → ⊥) → (found .found ≡ false) × (found .row ≡ 0)
+  unfolding FindsHanded
+  none-well found f n =
+      either few
+      (λ e. absurd (n (finder-well found f ∙ rw e)))
+      (λ e. let l = leb-false (length files) 400 e in rw (f .0 l) (refl, refl))
+
+  owner-well : filesOwner files first c .no ≡ pick few 0 10
+  unfolding filesOwner
+  owner-well =
+      either few
+      (λ e. let l = leb-true (length files) 400 e in rw (e, le-ltb 400 (length files) l) (owner-no (ownerOf (map startOf files) (map sizeOf files) first c)))
+      (λ e. let l = leb-false (length files) 400 e in rw (e, lt-ltb 400 (length files) l))
+
+  unowned-well : (filesOwner files first c .no ≡ 0 → ⊥) → (filesOwner files first c .owner ≡ 0) × (filesOwner files first c .row ≡ 0)
+  unfolding filesOwner
+  unowned-well n =
+      either few
+      (λ e. absurd (n (owner-well ∙ rw e)))
+      (λ e. let l = leb-false (length files) 400 e in rw (lt-ltb 400 (length files) l) (refl, refl))
+
+  pub table-reads-well : (found : HandedAnswer) → FindsFile files found → TableReads files first c found
+  table-reads-well found f = record { finder = finder-well found f; none-found = none-well found f; owner = owner-well; unowned = unowned-well }
+
 pub demand-1-calls : Demand1Calls
 unfolding modeReset setReadOnly
 demand-1-calls =
@@ -108,4 +158,5 @@ demand-1-calls =
       report = report-well;
       starts = start-well;
       reads = reads-well;
+      table-reads = table-reads-well;
     }
