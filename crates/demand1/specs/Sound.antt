@@ -1,13 +1,9 @@
 -- A state as a session has it.
 use Prim.Native.Nat.{ℕ, _<_}
-use mathlib.Core.List.{List}
 use mathlib.Core.Path.{_≡_}
 use lib.ListN.{length, getD}
 use Rattle.records.specs.Records.{maxRecords, noRec}
-use Rattle.records.specs.declared.Rec.{Rec}
 use Rattle.state.specs.State.{maxPairs, maxSlots, pair0, noSt}
-use Rattle.state.specs.declared.w.Pair.{Pair}
-use Rattle.state.specs.declared.w.St.{St}
 use Rattle.state.specs.declared.w.W.{W}
 
 -- of n places, each in use for a number or free with 0, no two are in use for one

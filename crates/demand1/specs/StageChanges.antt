@@ -7,7 +7,7 @@ use lib.Dec.{leb, ltb, eqb}
 use lib.ListN.{length, getD}
 use Rattle.loops.specs.Loops.{pick}
 use Rattle.loops.specs.Rows.{rows}
-use Rattle.loops.specs.declared.Found.the-variants.{At, Nothing}
+use Rattle.loops.specs.declared.Found.the-variants.{At}
 use Rattle.num.specs.Num.{wrappingNext}
 use Rattle.bits.specs.Bit.{bit, setBit}
 use Rattle.sector.specs.Bytes.{zeros}

@@ -15,7 +15,7 @@ use Rattle.sessions.specs.Poll.{ticked, pollCall}
 use Rattle.sessions.specs.PollLaws.{poll-dropped, poll-ended, poll-quiet, poll-kept}
 use Rattle.sessions.specs.Sessions.{modeReset, busReset, busResetCall}
 use Rattle.demand1_sessions.specs.Ends.{upTo400, staysHanded, leftMarks, Lasts, Ran, PutOff, Idle, clockSet, heldEndDue, quietDue, tickEnds, MayEnd}
-use Rattle.demand1_sessions.specs.EndTests.{fits-as, due-as, quiet-as, had-as}
+use Rattle.demand1_sessions.specs.EndTestLaws.{fits-as, due-as, quiet-as, had-as}
 
 -- a table that doesn't fit
 module _ (x : Lending) (w t still : W) (reset mode : Bool) (how : ℕ) where
