@@ -164,6 +164,9 @@ pub record Demand3 (t : Table) (h : History) : Type 0 where
   pub held : (j : ℕ) → j < length (t .ids) → Each (λ e. So (handed (idOf (e .before) j)) → So (handed (idOf (e .out .after) j) || goneBy t j e)) (h .trace)
   -- "a completed release leaves no pair, record, staged cluster, boot byte or FAT[1] of the session", whichever call of the list led to it
   pub clean : Each (λ e. So (e .out .released) → Clean (e .out .after .w)) (h .trace)
+  -- and each file of the table handed, or unmarked, "bits 12 to 15 are 0 in the table that the release left"
+  pub settled : (j : ℕ) → j < length (t .ids)
+      → Each (λ e. So (e .out .released) → So (handed (idOf (e .out .after) j) || unmarked (idOf (e .out .after) j))) (h .trace)
 
 -- "The release that last left it unmarked" may also be read with releases that were put off, skipped or cut short, which leave the table as it was:
 -- `also` says which calls count besides those that completed one.

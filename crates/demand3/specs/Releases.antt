@@ -48,6 +48,10 @@ module _ (id : ℕ) where
       twice : (n : ℕ) → n % 4096 % 4096 ≡ n % 4096
       twice n = omega arith
 
+  handed-still : handed (handedId id) ≡ true
+  unfolding handed
+  handed-still = rw (handed-turned, handed-freed, handed-gone)
+
   cleared-unmarked : unmarked (cleared id) ≡ true
   unfolding unmarked
   cleared-unmarked = let v = cleared-marks id in rw (v .0, v .1, v .2, v .3)
@@ -98,6 +102,14 @@ module _ (t : Table) (s : Session) (m : Medium) (k : Kept t (s .ids) (s .w)) (j 
       stays (ap turned at ∙ handed-turned (idOf s j) ∙ sym (o .0)) (ap freed at ∙ handed-freed (idOf s j)) (ap gone at ∙ handed-gone (idOf s j) ∙ sym (o .1))
       (ap moved at ∙ handed-moved (idOf s j)) (o .2))
       (λ q at. bare q (ap unmarked at ∙ cleared-unmarked (idOf s j)))
+      (rw e row-at)
+
+  -- so each row is handed or unmarked
+  pub release-settles : (ids : List ℕ) → ids ≡ releasedIds (lent t s m) (s .w .st) → (handed (getD ids j 0) || unmarked (getD ids j 0)) ≡ true
+  release-settles ids e =
+      pick-by (λ (x : ℕ). getD ids j 0 ≡ x → (handed (getD ids j 0) || unmarked (getD ids j 0)) ≡ true) on (handedId (idOf s j)) (cleared (idOf s j))
+      (λ q at. or-l (handed (getD ids j 0)) (unmarked (getD ids j 0)) (ap handed at ∙ handed-still (idOf s j)))
+      (λ q at. or-r (handed (getD ids j 0)) (unmarked (getD ids j 0)) (ap unmarked at ∙ cleared-unmarked (idOf s j)))
       (rw e row-at)
 
   -- a handed file is one that stays so

@@ -11,7 +11,7 @@ use borrow.Author.Tests.{ltb-true, eqb-true, eqb-false}
 use Rattle.loops.specs.Loops.{pick}
 use Rattle.loops.specs.Choices.{either, pick-by, pick-has, and-0, and-no, or-r}
 use Rattle.bits.specs.Bit.{setBit}
-use Rattle.vdisk.specs.Ids.{turned, freed, gone, moved, handed}
+use Rattle.vdisk.specs.Ids.{turned, freed, gone, moved, handed, unmarked}
 use Rattle.vdisk.specs.IdLaws.{set-low}
 use Rattle.file_table.specs.Table.{Table, maxFiles, accepts}
 use Rattle.file_table.specs.Accepted.{accepted, row-unmarked}
@@ -25,10 +25,10 @@ use Rattle.write.specs.Write.{write as written}
 use Rattle.release.specs.Release.{Ended}
 use Rattle.sessions.specs.Sessions.{Reported, modeReset, setReadOnly as readOnlySet, reportGone, start}
 use Rattle.demand3.specs.Step.{Session, Outcome, Medium, Sector, Call, write, poll, release, releaseAll, busReset, resetMode, setReadOnly, report, refusedStart, sectorOf, lent, ofEnded, ofReported, step, idOf}
-use Rattle.demand3.specs.History.{seen, goneBy, namedNow, ofStaged, event, run, next, begun, sinceBy, lately, Clean, History, Each, none, more, Demand3}
+use Rattle.demand3.specs.History.{Event, seen, goneBy, namedNow, ofStaged, event, run, next, begun, sinceBy, lately, Clean, History, Each, none, more, Demand3}
 use Rattle.demand3.specs.Induct.{Effect, held-on, Told, told-run, told-none, told-demand}
 use Rattle.demand3.specs.Ends.{EndsAs, releaseAll-ends, releaseCall-ends, busReset-ends, poll-ends}
-use Rattle.demand3.specs.Releases.{release-effect, release-kept}
+use Rattle.demand3.specs.Releases.{release-effect, release-settles, release-kept}
 
 abbrev pub Good : Table → Session → Type 0
 Good t s = Kept t (s .ids) (s .w)
@@ -119,8 +119,8 @@ module _ (t : Table) (s : Session) (k : Good t s) (m : Medium) (e : Ended) (a : 
       (rw is (and-no (eqb (e .number) 0) false refl)) (rw is (and-no (eqb (e .number) 0) false refl)) (rw (q, is)) (rw is (and-no (eqb (e .number) 0) false refl)))
       (λ q. let r = a .stays q in still t j c s (ofEnded e) (r .ids) (rw is) (rw is) (rw is) q)
 
-  ended-clean : So (eqb (e .ended) 1) → Clean (e .w)
-  ended-clean q = a .ran q .clean
+  ended-settled : (j : ℕ) → j < length (t .ids) → So (eqb (e .ended) 1) → So (handed (getD (e .ids) j 0) || unmarked (getD (e .ids) j 0))
+  ended-settled j l q = release-settles t s m k j l (e .ids) (a .ran q .ids)
 
 and-swap : (a b : Bool) → (a && b) ≡ (b && a)
 and-swap true true = refl
@@ -202,26 +202,34 @@ demand-3-clean t (setReadOnly on) s e = absurd (false≢true e)
 demand-3-clean t (report i) s e = absurd (false≢true e)
 demand-3-clean t (refusedStart other q) s e = absurd (false≢true e)
 
-clean-run : (t : Table) (cs : List Call) (h : History) → Each (λ e. So (e .out .released) → Clean (e .out .after .w)) (h .trace)
-    → Each (λ e. So (e .out .released) → Clean (e .out .after .w)) (run t h cs .trace)
-unfolding run event
-clean-run t [] h k = k
-clean-run t (c ∷ cs) h k = clean-run t cs (next t h c) (more (demand-3-clean t c (h .session)) k)
+-- and each row handed or unmarked
+demand-3-settled : (t : Table) (c : Call) (s : Session) → Good t s → (j : ℕ) → j < length (t .ids) → So (step t c s .released)
+    → So (handed (idOf (step t c s .after) j) || unmarked (idOf (step t c s .after) j))
+unfolding step
+demand-3-settled t (write x busy m) s k j l e = absurd (false≢true e)
+demand-3-settled t (poll clock mounted m) s k j l e = ended-settled t s k m _ (poll-ends (lent t s m) (s .w) clock mounted) j l e
+demand-3-settled t (release m) s k j l e = ended-settled t s k m _ (releaseCall-ends (lent t s m) (s .w)) j l e
+demand-3-settled t (releaseAll reset m) s k j l e = ended-settled t s k m _ (releaseAll-ends (lent t s m) (s .w) reset) j l e
+demand-3-settled t (busReset m) s k j l e = ended-settled t s k m _ (busReset-ends (lent t s m) (s .w)) j l e
+demand-3-settled t resetMode s k j l e = absurd (false≢true e)
+demand-3-settled t (setReadOnly on) s k j l e = absurd (false≢true e)
+demand-3-settled t (report i) s k j l e = absurd (false≢true e)
+demand-3-settled t (refusedStart other q) s k j l e = absurd (false≢true e)
 
--- a handed file stays handed through every call
-held-run : (t : Table) → accepts t ≡ true → (j : ℕ) → j < length (t .ids) → (cs : List Call) (h : History) → Good t (h .session)
-    → Each (λ e. So (handed (idOf (e .before) j)) → So (handed (idOf (e .out .after) j) || goneBy t j e)) (h .trace)
-    → Each (λ e. So (handed (idOf (e .before) j)) → So (handed (idOf (e .out .after) j) || goneBy t j e)) (run t h cs .trace)
+-- what holds of each call holds of a whole list
+each-run : (t : Table) → accepts t ≡ true → (P : Event → Type 0) → ((c : Call) (s : Session) → Good t s → P (event t c s)) → (cs : List Call) (h : History)
+    → Good t (h .session) → Each P (h .trace) → Each P (run t h cs .trace)
 unfolding run event
-held-run t fine j l [] h g k = k
-held-run t fine j l (c ∷ cs) h g k =
-    held-run t fine j l cs (next t h c) (good t fine c (h .session) g) (more (held-on t j (event t c (h .session)) (effect t fine c (h .session) g j l)) k)
+each-run t fine P p [] h g k = k
+each-run t fine P p (c ∷ cs) h g k = each-run t fine P p cs (next t h c) (good t fine c (h .session) g) (more (p c (h .session) g) k)
 
 pub demand-3 : (t : Table) → accepts t ≡ true → (cs : List Call) → Demand3 t (run t (begun t) cs)
+unfolding event
 demand-3 t fine cs =
     record {
       safe = λ j l. told-demand t j (run t (begun t) cs) (told t fine cs j l) .safe;
-      held = λ j l. held-run t fine j l cs (begun t) (kept-start t) none;
       complete = λ j l. told-demand t j (run t (begun t) cs) (told t fine cs j l) .complete;
-      clean = clean-run t cs (begun t) none;
+      held = λ j l. each-run t fine _ (λ c s k. held-on t j (event t c s) (effect t fine c s k j l)) cs (begun t) (kept-start t) none;
+      clean = each-run t fine _ (λ c s k. demand-3-clean t c s) cs (begun t) (kept-start t) none;
+      settled = λ j l. each-run t fine _ (λ c s k. demand-3-settled t c s k j l) cs (begun t) (kept-start t) none;
     }

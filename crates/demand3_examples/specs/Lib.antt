@@ -1,5 +1,7 @@
 -- One file in lists of calls, computed.
 pub mod Setting
-pub mod Example
-pub mod Named
-pub mod Ends
+pub mod Calls
+pub mod SettingLaws
+pub mod HandedLaws
+pub mod NamedLaws
+pub mod EndsLaws

@@ -1,9 +1,7 @@
--- The setting of the examples: a table of one file, media, and the calls that they are made of.
+-- The setting of the examples: a table of one file, and what lists of calls leave of it.
 use Prim.Native.Nat.{ℕ}
-use mathlib.Core.Bool.{Bool, true, false}
-use mathlib.Core.List.{List, [], _∷_, _++_}
-use mathlib.Core.Path.{_≡_, refl}
-use lib.ListN.{replicate}
+use mathlib.Core.Bool.{Bool, false}
+use mathlib.Core.List.{List, [], _∷_}
 use Rattle.loops.specs.Loops.{all, some, first, last, listed, count, fold}
 use Rattle.loops.specs.Found.{find, foundBelow}
 use Rattle.loops.specs.Rows.{rowsFrom}
@@ -43,17 +41,12 @@ use Rattle.release.specs.Release.{handedOn, releaseId, releasedIds, emptied, re
 use Rattle.release.specs.Release.{releaseAllCall, releaseCall}
 use Rattle.sessions.specs.Poll.{ticked, endDue, heldEnd, isQuiet, quietly, poll as polled, pollCall}
 use Rattle.sessions.specs.Sessions.{setReadOnly as readOnlySet, modeReset, busReset as resetBus, busResetCall, reportGone, start}
-use Rattle.demand3.specs.Step.{Session, Outcome, Medium, Sector, Call, write, setReadOnly, resetMode, step, sectorOf as sectorWritten, idOf}
+use Rattle.demand3.specs.Step.{Session, Outcome, Medium, Sector, Call, setReadOnly, resetMode, step, sectorOf as sectorWritten, idOf}
 use Rattle.demand3.specs.History.{event, run, begun}
 
 -- file 5 of LOGS, in slot 0, with cluster 100
 abbrev pub table : Table
 table = tableOf (5 ∷ []) (0 ∷ []) (100 ∷ []) (32768 ∷ []) 7
-
-pub taken-table : accepts table ≡ true
-unfolding accepts wholeColumns allUnmarked unmarked clustersFit rises startsApart inFile clustersOf firstFits allIn clustersIn namesApart
-    sharesName sameName placesApart sharesPlace samePlace idDirOf dirOf all some bit
-taken-table = refl
 
 -- the session after these calls, writing being on; what they compute with is unfolded with it
 unfoldable pub after : List Call → Session
@@ -83,16 +76,3 @@ outcome cs c = step table c (after cs)
 -- the data area that a sector written after these calls leaves
 abbrev pub area-left : List Call → Sector → Medium → List ℕ
 area-left cs x m = written (sectorWritten table (after cs) x false m) (after cs .w) .area
-
-abbrev pub none : Medium
-none = record { fat = []; area = [] }
-
--- its slot turned, its entry zeroed
-abbrev pub turn-at : Medium → Call
-turn-at m = write (record { lba = 669; shown = 65 ∷ replicate 511 0; written = 0xE5 ∷ replicate 511 0 }) false m
-
-abbrev pub turn : Call
-turn = turn-at none
-
-abbrev pub zero-it : Call
-zero-it = write (record { lba = 1; shown = replicate 200 0 ++ (255 ∷ 255 ∷ replicate 310 0); written = replicate 512 0 }) false none

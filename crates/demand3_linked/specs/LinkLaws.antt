@@ -14,7 +14,7 @@ use Rattle.write.specs.Write.{Written, write as written}
 use Rattle.release.specs.Release.{Lending, Ended, releaseAllCall, releaseCall}
 use Rattle.sessions.specs.Poll.{pollCall}
 use Rattle.sessions.specs.Sessions.{Reported, Started, busResetCall, modeReset, setReadOnly as readOnlySet, reportGone, start}
-use Rattle.session_calls.specs.Calls.{filesLending, endAnswer}
+use Rattle.session_calls.specs.Calls.{filesLending, endAnswer, EndsBy}
 use Rattle.session_calls.specs.declared.EndAnswer.{EndAnswer}
 use Rattle.table_calls.specs.Calls.{filesWritten}
 use Rattle.demand3.specs.Step.{Session, Outcome, Medium, Sector, Call, write, poll, release, releaseAll, busReset, resetMode, setReadOnly, report, refusedStart, sectorOf, lent, ofEnded, step}
@@ -100,9 +100,7 @@ module _ (files : List VF) (first : ℕ) (l : Lent) (s : Session) (h : Stands fi
   Steps after r o = Stands files after (o .after) × (r ≡ resultBy o)
 
   ended : (call : Lending → W → Ended) → ((x : Lending) (w : W) → length (call x w .ids) ≡ length (x .ids)) → (m : Medium) (r : EndAnswer) (after : Lent)
-      → (r ≡ endAnswer (call (filesLending (m .fat) (m .area) (l .files)) (l .w)))
-      × (after .w ≡ call (filesLending (m .fat) (m .area) (l .files)) (l .w) .w)
-      × (after .files ≡ withIds (l .files) (call (filesLending (m .fat) (m .area) (l .files)) (l .w) .ids))
+      → EndsBy call (m .fat) (m .area) (l .w) (l .files) r (after .w) (after .files)
       → Steps after (endResult r) (ofEnded (call (lent t s m) (s .w)))
   ended call n m r after e =
       let q : call (filesLending (m .fat) (m .area) (l .files)) (l .w) ≡ call (lent t s m) (s .w) = rw (lending-as m, h .state) in
@@ -111,7 +109,8 @@ module _ (files : List VF) (first : ℕ) (l : Lent) (s : Session) (h : Stands fi
   steps : (c : Call) (r : Answer c) (after : Lent) → Ensures c l r after → Steps after (resultOf c r) (step t c s)
   unfolding Ensures resultOf step
   steps (write x busy m) r after e =
-      let q = write-as x busy m in (
+      let q = write-as x busy m in
+      let e = e .1 in (
         sets after _ _ (e .1 ∙ ap (λ (o : Written). o .w) q) (e .2 ∙ ap (λ (o : Written). withIds (l .files) (o .ids)) q) (write-rows (sectorOf t s x busy m) (s .w)),
         ap numbered (e .0 ∙ ap (λ (o : Written). o .number) q),
       )
@@ -123,10 +122,10 @@ module _ (files : List VF) (first : ℕ) (l : Lent) (s : Session) (h : Stands fi
   steps (setReadOnly on) r after e = (leaves after _ (e .0 ∙ ap (λ (w : W). readOnlySet w on) (h .state)) (e .1), refl)
   steps (report j) r after e =
       let q : reportGone (map idOf (l .files)) j ≡ reportGone (s .ids) j = ap (λ (ids : List ℕ). reportGone ids j) ids-as in
-      (sets after _ _ (e .1 ∙ h .state) (e .2 ∙ ap (λ (o : Reported). withIds (l .files) (o .ids)) q) (report-rows (s .ids) j), ap numbered (e .0 ∙ ap (λ (o : Reported). o .number) q))
+      (sets after _ _ (e .1 ∙ h .state) (e .0 .1 ∙ ap (λ (o : Reported). withIds (l .files) (o .ids)) q) (report-rows (s .ids) j), ap numbered (e .0 .0 ∙ ap (λ (o : Reported). o .number) q))
   steps (refusedStart other z) r after e =
       let q : start other (l .w) ≡ start other (s .w) = ap (start other) (h .state) in
-      (leaves after _ (e .1 ∙ ap (λ (o : Started). o .w) q) (e .2), ap numbered (e .0 ∙ ap (λ (o : Started). o .number) q))
+      (leaves after _ (e .0 .1 ∙ ap (λ (o : Started). o .w) q) (e .1), ap numbered (e .0 .0 ∙ ap (λ (o : Started). o .number) q))
 
 -- all calls of a list
 pub linked-run : (files : List VF) (first : ℕ) {l after : Lent} {cs : List Call} {ts : List Result} → Linked l cs ts after → (h : History) → Stands files l (h .session)

@@ -1,22 +1,23 @@
 -- The calls that a firmware links, one after the other, each by its own `ensures`, and what demand 3's list of calls says of them.
-use Prim.Native.Nat.{ℕ}
-use mathlib.Core.Bool.{Bool, true, false}
+use Prim.Native.Nat.{ℕ, _<_}
+use mathlib.Core.Bool.{Bool, true, false, not, _||_, So}
 use mathlib.Core.List.{List, [], _∷_, map, reverse}
 use mathlib.Core.Path.{_≡_}
 use lib.Dec.{eqb}
 use lib.ListN.{length}
-use Rattle.file_table.specs.Table.{columns, accepts}
+use Rattle.file_table.specs.Table.{Table, columns, accepts}
 use Rattle.file_table.specs.declared.VF.{VF}
 use Rattle.files.specs.Files.{idOf, dirSlotOf, startOf, sizeOf, withIds}
 use Rattle.state.specs.declared.w.W.{W}
 use Rattle.release.specs.Release.{releaseCall, releaseAllCall}
 use Rattle.sessions.specs.Poll.{pollCall}
-use Rattle.sessions.specs.Sessions.{busResetCall, modeReset, setReadOnly as readOnlySet, reportGone, start}
-use Rattle.session_calls.specs.Calls.{filesLending, endAnswer}
+use Rattle.sessions.specs.Sessions.{busResetCall}
+use Rattle.session_calls.specs.Calls.{EndsBy, ReportsBy, StartsBy, AsksMode, SetsMode}
 use Rattle.session_calls.specs.declared.EndAnswer.{EndAnswer}
-use Rattle.table_calls.specs.Calls.{filesWritten}
+use Rattle.session_calls.specs.declared.HandedAnswer.{HandedAnswer}
+use Rattle.table_calls.specs.Calls.{WritesBy}
 use Rattle.demand3.specs.Step.{Session, Outcome, Call, write, poll, release, releaseAll, busReset, resetMode, setReadOnly, report, refusedStart}
-use Rattle.demand3.specs.History.{Event, History, run, begun}
+use Rattle.demand3.specs.History.{Event, History, run, begun, lately, turnedIn, zeroedIn, namedIn, goneIn}
 
 -- What a firmware lends to each call. The medium may be another at each.
 pub record Lent : Type 0 where
@@ -35,39 +36,22 @@ Answer (setReadOnly on) = Unit {0}
 Answer (report j) = ℕ
 Answer (refusedStart other e) = ℕ
 
--- what `vwrite_write` ensures, and in their order `vwrite_poll`, `vwrite_release`, `vwrite_release_all`, `vdisk_on_bus_reset`, `vwrite_on_bus_reset`,
--- `vwrite_set_read_only`, `vwrite_report_gone` and `vwrite_start`, the last lent another table; what isn't lent stays
+-- What `vwrite_write`, `vwrite_poll`, `vwrite_release`, `vwrite_release_all`, `vdisk_on_bus_reset`, `vwrite_on_bus_reset`, `vwrite_set_read_only`,
+-- `vwrite_report_gone` and `vwrite_start` ensure, by the predicates of their contracts; what isn't lent stays. A write leaves some data area, and the medium
+-- lent next may be any; the start is lent another table.
 unfoldable pub Ensures : (c : Call) → Lent → Answer c → Lent → Type 0
 Ensures (write x busy m) before r after =
-    (r ≡ filesWritten (x .lba) (x .shown) (x .written) busy (m .fat) (m .area) (before .files) (before .w) .number)
-    × (after .w ≡ filesWritten (x .lba) (x .shown) (x .written) busy (m .fat) (m .area) (before .files) (before .w) .w)
-    × (after .files ≡ withIds (before .files) (filesWritten (x .lba) (x .shown) (x .written) busy (m .fat) (m .area) (before .files) (before .w) .ids))
+    (areaLeft : List ℕ) × WritesBy (x .lba) (x .shown) (x .written) busy (m .fat) (m .area) (before .w) (before .files) r (after .w) (after .files) areaLeft
 Ensures (poll clock mounted m) before r after =
-    (r ≡ endAnswer (pollCall (filesLending (m .fat) (m .area) (before .files)) (before .w) clock mounted))
-    × (after .w ≡ pollCall (filesLending (m .fat) (m .area) (before .files)) (before .w) clock mounted .w)
-    × (after .files ≡ withIds (before .files) (pollCall (filesLending (m .fat) (m .area) (before .files)) (before .w) clock mounted .ids))
-Ensures (release m) before r after =
-    (r ≡ endAnswer (releaseCall (filesLending (m .fat) (m .area) (before .files)) (before .w)))
-    × (after .w ≡ releaseCall (filesLending (m .fat) (m .area) (before .files)) (before .w) .w)
-    × (after .files ≡ withIds (before .files) (releaseCall (filesLending (m .fat) (m .area) (before .files)) (before .w) .ids))
+    EndsBy (λ x v. pollCall x v clock mounted) (m .fat) (m .area) (before .w) (before .files) r (after .w) (after .files)
+Ensures (release m) before r after = EndsBy releaseCall (m .fat) (m .area) (before .w) (before .files) r (after .w) (after .files)
 Ensures (releaseAll reset m) before r after =
-    (r ≡ endAnswer (releaseAllCall (filesLending (m .fat) (m .area) (before .files)) (before .w) reset))
-    × (after .w ≡ releaseAllCall (filesLending (m .fat) (m .area) (before .files)) (before .w) reset .w)
-    × (after .files ≡ withIds (before .files) (releaseAllCall (filesLending (m .fat) (m .area) (before .files)) (before .w) reset .ids))
-Ensures (busReset m) before r after =
-    (r ≡ endAnswer (busResetCall (filesLending (m .fat) (m .area) (before .files)) (before .w)))
-    × (after .w ≡ busResetCall (filesLending (m .fat) (m .area) (before .files)) (before .w) .w)
-    × (after .files ≡ withIds (before .files) (busResetCall (filesLending (m .fat) (m .area) (before .files)) (before .w) .ids))
-Ensures resetMode before r after = (after .w ≡ modeReset (before .w)) × (after .files ≡ before .files)
-Ensures (setReadOnly on) before r after = (after .w ≡ readOnlySet (before .w) on) × (after .files ≡ before .files)
-Ensures (report j) before r after =
-    (r ≡ reportGone (map idOf (before .files)) j .number)
-    × (after .w ≡ before .w)
-    × (after .files ≡ withIds (before .files) (reportGone (map idOf (before .files)) j .ids))
-Ensures (refusedStart other e) before r after =
-    (r ≡ start other (before .w) .number)
-    × (after .w ≡ start other (before .w) .w)
-    × (after .files ≡ before .files)
+    EndsBy (λ x v. releaseAllCall x v reset) (m .fat) (m .area) (before .w) (before .files) r (after .w) (after .files)
+Ensures (busReset m) before r after = EndsBy busResetCall (m .fat) (m .area) (before .w) (before .files) r (after .w) (after .files)
+Ensures resetMode before r after = SetsMode (before .w) (after .w) × (after .files ≡ before .files)
+Ensures (setReadOnly on) before r after = AsksMode on (before .w) (after .w) × (after .files ≡ before .files)
+Ensures (report j) before r after = ReportsBy j (before .files) r (after .files) × (after .w ≡ before .w)
+Ensures (refusedStart other e) before r after = StartsBy other (before .w) r (after .w) × (after .files ≡ before .files)
 
 -- what demand 3 goes by of an answer: the refusal number, 0 of a call that has none; whether a release ran to its end in the call, or was put off
 pub record Result : Type 0 where
@@ -101,8 +85,7 @@ pub data Linked : Lent → List Call → List Result → Lent → Type 0 where
 -- what a `vwrite_start` that takes its table leaves, whatever state it is lent; it is lent the table, and may not change it
 pub record Started (files : List VF) (first : ℕ) (after : Lent) : Type 0 where
   pub earlier : W
-  pub number : start (columns files first) earlier .number ≡ 0
-  pub state : after .w ≡ start (columns files first) earlier .w
+  pub takes : StartsBy (columns files first) earlier 0 (after .w)
   pub table : after .files ≡ files
 
 -- what demand 3 goes by of what is lent, of an event, and of the events of a history, the latest first
@@ -134,3 +117,14 @@ pub record Chained (files : List VF) (first : ℕ) (begin : Lent) (cs : List Cal
 -- demand 3's history of linked calls, with what is lent in the end as its session
 abbrev pub lentHistory : List VF → ℕ → List Call → Lent → History
 lentHistory files first cs after = record { session = sessionOf after; trace = historyOf files first cs .trace }
+
+-- What the finder answers of the table that a list of calls left. The file of a row that it finds was turned, and zeroed or named, "since the start or the
+-- release that last left it unmarked"; and it finds one where a file was turned and zeroed so, "and not reported gone since that start or release".
+pub record FinderTells (t : Table) (h : History) (r : HandedAnswer) : Type 0 where
+  -- there are up to 400 files, since a start took the table
+  pub number : r .no ≡ 0
+  pub row : So (r .found) → r .row < length (t .ids)
+  pub safe : So (r .found) → So (turnedIn t (r .row) (lately (r .row) h))
+      × So (zeroedIn t (r .row) (lately (r .row) h) || namedIn t (r .row) (lately (r .row) h))
+  pub complete : (j : ℕ) → j < length (t .ids) → So (turnedIn t j (lately j h)) → So (zeroedIn t j (lately j h)) → So (not (goneIn t j (lately j h)))
+      → So (r .found)

@@ -22,7 +22,8 @@ use Rattle.sessions.specs.Poll.{pollCall}
 use Rattle.sessions.specs.Sessions.{Finds, Reported, busResetCall, reportGone, start}
 use Rattle.session_calls.specs.declared.Closed.{Closed}
 use Rattle.session_calls.specs.declared.HandedAnswer.{HandedAnswer}
-use Rattle.session_calls.specs.Calls.{filesLending, endAnswer, columnsLending, refusedEnd, columnsEnded, columnsTable, columnsStarted, columnsGone, FindsHanded, FindsFile, FindsColumns}
+use Rattle.session_calls.specs.Calls.{filesLending, endAnswer, EndsBy, ReportsBy}
+use Rattle.session_calls.specs.Calls.{columnsLending, refusedEnd, columnsEnded, columnsTable, columnsStarted, columnsGone, FindsHanded, FindsFile, FindsColumns}
 
 take-front : (xs ys : List ℕ) → take (length xs) (xs ++ ys) ≡ xs
 take-front [] ys = refl
@@ -66,7 +67,7 @@ module _ (call : Lending → W → Ended) (turns-down : (x : Lending) (w : W) �
   x = filesLending fat area files
 
   abbrev Same : Ended → Type 0
-  Same z = (endAnswer z ≡ endAnswer (call x w)) × (z .w ≡ call x w .w) × (withIds files (z .ids) ≡ withIds files (call x w .ids))
+  Same z = EndsBy call fat area w files (endAnswer z) (z .w) (withIds files (z .ids))
 
   as-many : maxFiles < length files → Same (refusedEnd w)
   unfolding fits
@@ -83,7 +84,7 @@ module _ (call : Lending → W → Ended) (turns-down : (x : Lending) (w : W) �
       (λ e. as-many (ltb-true maxFiles (length files) e)) (λ e. subst (λ (y : Lending). Same (call y w)) (sym (as-few (ltb-false maxFiles (length files) e))) (refl, refl, refl))
 
   pub ends-by : (r : Closed) → LeavesColumns call fat area (columnsOf files) w r
-      → (r .answer ≡ endAnswer (call x w)) × (r .w ≡ call x w .w) × (withIds files (take (rowsTaken (length files)) (r .ids)) ≡ withIds files (call x w .ids))
+      → EndsBy call fat area w files (r .answer) (r .w) (withIds files (take (rowsTaken (length files)) (r .ids)))
   ends-by r e = (e .0 ∙ by-columns .0, e .1 ∙ by-columns .1, ap (withIds files) (e .2) ∙ by-columns .2)
 
 -- the calls that do
@@ -142,7 +143,7 @@ module _ (c : Columns) (j : ℕ) where
 -- ... is a report of the files
 module _ (files : List VF) (j : ℕ) where
   abbrev SameIds : Reported → Type 0
-  SameIds z = (z .number ≡ reportGone (map idOf files) j .number) × (withIds files (z .ids) ≡ withIds files (reportGone (map idOf files) j .ids))
+  SameIds z = ReportsBy j files (z .number) (withIds files (z .ids))
 
   gone-of-many : maxFiles < length files → SameIds (record { number = 10; ids = [] })
   unfolding reportGone
@@ -154,7 +155,7 @@ module _ (files : List VF) (j : ℕ) where
       (λ e. gone-of-many (ltb-true maxFiles (length files) e)) (λ e. subst (λ (ids : List ℕ). SameIds (reportGone ids j)) (sym (column-of idOf files (ltb-false maxFiles (length files) e))) (refl, refl))
 
   pub gone-by : (m : ℕ) (ids : List ℕ) → LeavesGone (columnsOf files) j m ids
-      → (m ≡ reportGone (map idOf files) j .number) × (withIds files (take (rowsTaken (length files)) ids) ≡ withIds files (reportGone (map idOf files) j .ids))
+      → ReportsBy j files m (withIds files (take (rowsTaken (length files)) ids))
   gone-by m ids e = (e .0 ∙ gone-by-columns .0, ap (withIds files) (e .1) ∙ gone-by-columns .1)
 
 -- the finder

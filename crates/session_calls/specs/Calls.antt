@@ -1,6 +1,6 @@
 -- The calls of a session over the lent table: the definitions that they cite, of the table's columns.
 use Prim.Native.Nat.{ℕ, _<_, _≤_}
-use mathlib.Core.Bool.{true, false}
+use mathlib.Core.Bool.{Bool, true, false}
 use mathlib.Core.List.{List, [], map}
 use mathlib.Core.Path.{_≡_}
 use lib.Dec.{ltb}
@@ -9,11 +9,11 @@ use Rattle.loops.specs.Loops.{pick}
 use Rattle.vdisk.specs.Ids.{handed}
 use Rattle.file_table.specs.Table.{Table, maxFiles, tableOf}
 use Rattle.file_table.specs.declared.VF.{VF}
-use Rattle.files.specs.Files.{idOf, startOf, sizeOf}
+use Rattle.files.specs.Files.{idOf, startOf, sizeOf, withIds}
 use Rattle.files.specs.declared.Columns.{Columns}
 use Rattle.state.specs.declared.w.W.{W}
 use Rattle.release.specs.Release.{Lending, lending, Ended}
-use Rattle.sessions.specs.Sessions.{Reported, reportGone, Started, start}
+use Rattle.sessions.specs.Sessions.{Reported, reportGone, Started, start, setReadOnly, modeReset}
 use Rattle.session_calls.specs.declared.EndAnswer.{EndAnswer}
 use Rattle.session_calls.specs.declared.HandedAnswer.{HandedAnswer}
 
@@ -24,6 +24,29 @@ filesLending fat area files = lending fat area (map idOf files) (map startOf fil
 -- what a call that may end the session answers
 abbrev pub endAnswer : Ended → EndAnswer
 endAnswer e = record { no = e .number; ended = e .ended; had = e .had }
+
+-- What each call leaves, in its contract and in demand 3's lists alike. A call that may end the session, by its definition: the answer, the state, the
+-- table with its ids.
+abbrev pub EndsBy : (Lending → W → Ended) → List ℕ → List ℕ → W → List VF → EndAnswer → W → List VF → Type 0
+EndsBy call fat area w files r wLeft filesLeft =
+    (r ≡ endAnswer (call (filesLending fat area files) w))
+    × (wLeft ≡ call (filesLending fat area files) w .w)
+    × (filesLeft ≡ withIds files (call (filesLending fat area files) w .ids))
+
+-- a report of a row: the number, the table
+abbrev pub ReportsBy : ℕ → List VF → ℕ → List VF → Type 0
+ReportsBy row files r filesLeft = (r ≡ reportGone (map idOf files) row .number) × (filesLeft ≡ withIds files (reportGone (map idOf files) row .ids))
+
+-- a start with a table: the number, the state
+abbrev pub StartsBy : Table → W → ℕ → W → Type 0
+StartsBy t w r wLeft = (r ≡ start t w .number) × (wLeft ≡ start t w .w)
+
+-- a mode is asked for; the one that was asked for comes into force
+abbrev pub AsksMode : Bool → W → W → Type 0
+AsksMode on w wLeft = wLeft ≡ setReadOnly w on
+
+abbrev pub SetsMode : W → W → Type 0
+SetsMode w wLeft = wLeft ≡ modeReset w
 
 -- the finder over n files: 10 for more than 400; else the row of a handed file, any one, none only where none is
 unfoldable pub FindsHanded : ℕ → List ℕ → HandedAnswer → Type 0

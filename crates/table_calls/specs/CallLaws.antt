@@ -20,7 +20,7 @@ use Rattle.write.specs.WriteLaws.{not-whole, not-fit}
 use Rattle.write.specs.EarlyLaws.{earlyOf, tallied, tallyIn, Settles, settled-early}
 use Rattle.write.specs.declared.early.Early.{Early}
 use Rattle.write.specs.declared.early.Tally.{Tally}
-use Rattle.table_calls.specs.Calls.{filesWrite, tooMany, columnsWrite, columnsWritten}
+use Rattle.table_calls.specs.Calls.{filesWrite, WritesBy, tooMany, columnsWrite, columnsWritten}
 
 take-front : (xs ys : List ℕ) → take (length xs) (xs ++ ys) ≡ xs
 take-front [] ys = refl
@@ -53,7 +53,7 @@ module _ (lba : ℕ) (shown written : List ℕ) (busy : Bool) (fat area : List �
   x = filesWrite lba shown written busy fat area files
 
   abbrev Same : Written → Type 0
-  Same z = (z .number ≡ write x w .number) × (z .w ≡ write x w .w) × (withIds files (z .ids) ≡ withIds files (write x w .ids)) × (z .area ≡ write x w .area)
+  Same z = WritesBy lba shown written busy fat area w files (z .number) (z .w) (withIds files (z .ids)) (z .area)
 
   not-many : maxFiles < length files → tableFits x w ≡ false
   unfolding tableFits
@@ -79,7 +79,7 @@ module _ (lba : ℕ) (shown written : List ℕ) (busy : Bool) (fat area : List �
   pub files-by : (m : ℕ) (v : W) (ids after : List ℕ)
       → (m ≡ columnsWritten lba shown written busy fat area (columnsOf files) w .number) × (v ≡ columnsWritten lba shown written busy fat area (columnsOf files) w .w)
       × (take (rowsTaken (length files)) ids ≡ columnsWritten lba shown written busy fat area (columnsOf files) w .ids) × (after ≡ columnsWritten lba shown written busy fat area (columnsOf files) w .area)
-      → (m ≡ write x w .number) × (v ≡ write x w .w) × (withIds files (take (rowsTaken (length files)) ids) ≡ withIds files (write x w .ids)) × (after ≡ write x w .area)
+      → WritesBy lba shown written busy fat area w files m v (withIds files (take (rowsTaken (length files)) ids)) after
   files-by m v ids after e = (e .0 ∙ by-columns .0, e .1 ∙ by-columns .1, ap (withIds files) (e .2) ∙ by-columns .2, e .3 ∙ by-columns .3)
 
   -- the files' columns are whole
@@ -91,7 +91,7 @@ module _ (lba : ℕ) (shown written : List ℕ) (busy : Bool) (fat area : List �
 
   -- what is settled early leaves the files as they are
   pub early-by : (e : Early) (t : Tally) → e ≡ earlyOf (w .rw) (length files) lba shown written → e .settled ≡ true → t ≡ tallyIn w lba (e .no)
-      → (e .no ≡ write x w .number) × (tallied w t ≡ write x w .w) × (files ≡ withIds files (write x w .ids)) × (area ≡ write x w .area)
+      → WritesBy lba shown written busy fat area w files (e .no) (tallied w t) files area
   early-by e t a s b =
       let f = a ∙ ap (λ (n : ℕ). earlyOf (w .rw) n lba shown written) (sym (length-map files idOf)) in
       let l = subst (Settles x w) (sym f) (settled-early x w whole-columns) s in

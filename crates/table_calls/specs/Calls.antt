@@ -2,12 +2,13 @@
 use Prim.Native.Nat.{ℕ}
 use mathlib.Core.Bool.{Bool, _&&_}
 use mathlib.Core.List.{List, [], map}
+use mathlib.Core.Path.{_≡_}
 use lib.Dec.{eqb, ltb}
 use lib.ListN.{length, take}
 use Rattle.loops.specs.Loops.{pick}
 use Rattle.file_table.specs.Table.{maxFiles}
 use Rattle.file_table.specs.declared.VF.{VF}
-use Rattle.files.specs.Files.{idOf, dirSlotOf, startOf, sizeOf}
+use Rattle.files.specs.Files.{idOf, dirSlotOf, startOf, sizeOf, withIds}
 use Rattle.files.specs.declared.Columns.{Columns}
 use Rattle.state.specs.declared.w.W.{W}
 use Rattle.judge.specs.Classify.{SectorWrite, sectorWrite}
@@ -21,6 +22,14 @@ filesWrite lba shown written busy fat area files =
 -- what `write` leaves
 abbrev pub filesWritten : ℕ → List ℕ → List ℕ → Bool → List ℕ → List ℕ → List VF → W → Written
 filesWritten lba shown written busy fat area files w = write (filesWrite lba shown written busy fat area files) w
+
+-- What the call leaves, in its contract and in demand 3's lists alike: the number, the state, the table with its ids, the data area.
+abbrev pub WritesBy : ℕ → List ℕ → List ℕ → Bool → List ℕ → List ℕ → W → List VF → ℕ → W → List VF → List ℕ → Type 0
+WritesBy lba shown written busy fat area w files r wLeft filesLeft areaLeft =
+    (r ≡ filesWritten lba shown written busy fat area files w .number)
+    × (wLeft ≡ filesWritten lba shown written busy fat area files w .w)
+    × (filesLeft ≡ withIds files (filesWritten lba shown written busy fat area files w .ids))
+    × (areaLeft ≡ filesWritten lba shown written busy fat area files w .area)
 
 -- The same with the table by columns. Of more than 400 files there are no columns.
 unfoldable pub tooMany : List ℕ → List ℕ → ℕ

@@ -10,8 +10,6 @@ use Rattle.files.specs.FilesLaws.{same-ids}
 use Rattle.state.specs.Setters.{withSt, withSession, withLast, withStaging, withStageT, withHint, withErr, withVer, withN}
 use Rattle.state.specs.declared.w.St.{St}
 use Rattle.state.specs.declared.w.W.{W}
-use Rattle.judge.specs.Classify.{SectorWrite}
-use Rattle.write.specs.Write.{write}
 use Rattle.last_file.specs.FileBy.{fileBy}
 use Rattle.last_file.specs.declared.LastFile.{LastFile}
 use Rattle.settle_last.specs.Settle.{SettlesAt, settledIn}
@@ -28,7 +26,7 @@ use Rattle.free_file.specs.FreeFile.{lastAsked, FreesAt}
 use Rattle.free_file.specs.declared.FreedFile.{FreedFile}
 use Rattle.table_walks.specs.Walks.{lastOf, notedFiles}
 use Rattle.table_walks.specs.WalkLaws.{noted-files}
-use Rattle.table_calls.specs.Calls.{filesWrite}
+use Rattle.table_calls.specs.Calls.{WritesBy}
 use Rattle.table_calls.specs.CallLaws.{whole-columns}
 
 -- the state with staging slots and with what else a staged sector leaves
@@ -37,12 +35,9 @@ stagedWith w st r =
     withN (withVer (withErr (withHint (withStageT (withStaging (withLast (withSession (withSt w st) (r .session)) (r .last)) (r .staging)) (r .«stage_t»)) (r .hint)) (r .err)) (r .ver)) (r .n)
 
 module _ (lba : ℕ) (shown written : List ℕ) (busy : Bool) (fat area : List ℕ) (files : List VF) (w : W) where
-  abbrev x : SectorWrite
-  x = filesWrite lba shown written busy fat area files
-
   -- what the outer call leaves: the number, the state, the files, the area
   abbrev Leaves : ℕ → W → List VF → List ℕ → Type 0
-  Leaves m v zs after = (m ≡ write x w .number) × (v ≡ write x w .w) × (zs ≡ withIds files (write x w .ids)) × (after ≡ write x w .area)
+  Leaves m v zs after = WritesBy lba shown written busy fat area w files m v zs after
 
   pub settled-by-last : (f : LastFile) (r : Settled) → f ≡ lastOf files → SettlesAt w f lba shown written r → r .settled ≡ true → Leaves (r .no) (settledIn w r) files area
   settled-by-last f r e at on =

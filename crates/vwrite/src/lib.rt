@@ -37,8 +37,7 @@ ghost use Rattle.medium.specs.Reads.{stagedAnswer, stagedBytes};
 ghost use Rattle.chains.specs.Chains.{completeOf};
 ghost use Rattle.body.specs.Body.{bodyOf};
 ghost use Rattle.crc.specs.Crc.{crcOf};
-ghost use Rattle.files.specs.Files.{withIds};
-ghost use Rattle.table_calls.specs.Calls.{filesWritten};
+ghost use Rattle.table_calls.specs.Calls.{WritesBy};
 ghost use Rattle.state_calls.specs.Answers.{pairAnswer, dirAnswer, filesOwner};
 
 // A written sector is judged: the refusal number, 0 where it is taken.
@@ -53,10 +52,8 @@ pub extern "C" fn vwrite_write(
     fat: &[u16],
     area: &mut [u8],
 ) -> u8
-    ensures { λ r. ⌜ (r ≡ filesWritten lba (now (shown .entry)) (now (written .entry)) busy (now (fat .entry)) (now (area .entry)) (now (files .entry)) (now (w .entry)) .number)
-        × (now (w .exit) ≡ filesWritten lba (now (shown .entry)) (now (written .entry)) busy (now (fat .entry)) (now (area .entry)) (now (files .entry)) (now (w .entry)) .w)
-        × (now (files .exit) ≡ withIds (now (files .entry)) (filesWritten lba (now (shown .entry)) (now (written .entry)) busy (now (fat .entry)) (now (area .entry)) (now (files .entry)) (now (w .entry)) .ids))
-        × (now (area .exit) ≡ filesWritten lba (now (shown .entry)) (now (written .entry)) busy (now (fat .entry)) (now (area .entry)) (now (files .entry)) (now (w .entry)) .area) ⌝ }
+    ensures { λ r. ⌜ WritesBy lba (now (shown .entry)) (now (written .entry)) busy (now (fat .entry)) (now (area .entry)) (now (w .entry)) (now (files .entry))
+        r (now (w .exit)) (now (files .exit)) (now (area .exit)) ⌝ }
 {
     let e = early_of(w.rw, files.len(), lba, shown, written);
     if e.settled {

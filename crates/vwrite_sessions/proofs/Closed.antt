@@ -23,7 +23,7 @@ use Rattle.files.specs.Files.{rowsTaken, columnsOf, withIds}
 use Rattle.files.specs.declared.Columns.{Columns}
 use Rattle.files.proofs.Files.{map-same}
 use Rattle.release.specs.Release.{Lending, Ended, fits, turnedDown}
-use Rattle.session_calls.specs.Calls.{filesLending, endAnswer}
+use Rattle.session_calls.specs.Calls.{EndsBy}
 use Rattle.session_calls.specs.CallLaws.{LeavesColumns, ends-by}
 use Rattle.session_calls.specs.declared.EndAnswer.{EndAnswer}
 use Rattle.session_calls.specs.declared.Closed.{Closed}
@@ -70,11 +70,8 @@ module _ {M : Type 1} (𝓤 : URA M) (H : Heap 𝓤) (A : Atoms 𝓤) (W : Given
 
 -- What a call leaves of the files, by what it leaves of their columns.
 module _ (call : Lending → Ses → Ended) (turns-down : (x : Lending) (w : Ses) → fits x ≡ false → call x w ≡ turnedDown x w 10) (fat area : List ℕ) (files : List VF) (w : Ses) where
-  abbrev e : Ended
-  e = call (filesLending fat area files) w
-
   abbrev pub Left : Closed → List VF → Type 0
-  Left r zs = (r .answer ≡ endAnswer e) × (r .w ≡ e .w) × (zs ≡ withIds files (e .ids))
+  Left r zs = EndsBy call fat area w files (r .answer) (r .w) zs
 
   pub settles : (c : Columns) (r : Closed) (zs : List VF) → c ≡ columnsOf files → LeavesColumns call fat area c w r → zs ≡ withIds files (take (rowsTaken (length files)) (ids-in r)) → Left r zs
   settles c r zs e₁ e₂ e₃ =

@@ -8,12 +8,10 @@ use session_calls::poll_columns;
 use session_calls::release_all_columns;
 use session_calls::release_columns;
 use state::w::W;
-ghost use mathlib.Core.Path.{_≡_};
-ghost use Rattle.files.specs.Files.{withIds};
 ghost use Rattle.release.specs.Release.{releaseCall, releaseAllCall};
 ghost use Rattle.sessions.specs.Poll.{pollCall};
 ghost use Rattle.sessions.specs.Sessions.{busResetCall};
-ghost use Rattle.session_calls.specs.Calls.{filesLending, endAnswer};
+ghost use Rattle.session_calls.specs.Calls.{EndsBy};
 
 // A tick of the clock, which ends the session where its end is due or it is quiet.
 #[no_mangle]
@@ -25,9 +23,7 @@ pub extern "C" fn vwrite_poll(
     fat: &[u16],
     area: &[u8],
 ) -> EndAnswer
-    ensures { λ r. ⌜ (r ≡ endAnswer (pollCall (filesLending (now (fat .entry)) (now (area .entry)) (now (files .entry))) (now (w .entry)) clock mounted))
-        × (now (w .exit) ≡ pollCall (filesLending (now (fat .entry)) (now (area .entry)) (now (files .entry))) (now (w .entry)) clock mounted .w)
-        × (now (files .exit) ≡ withIds (now (files .entry)) (pollCall (filesLending (now (fat .entry)) (now (area .entry)) (now (files .entry))) (now (w .entry)) clock mounted .ids)) ⌝ }
+    ensures { λ r. ⌜ EndsBy (λ x v. pollCall x v clock mounted) (now (fat .entry)) (now (area .entry)) (now (w .entry)) (now (files .entry)) r (now (w .exit)) (now (files .exit)) ⌝ }
 {
     let c = load(files);
     let o = poll_columns(*w, c, fat, area, clock, mounted);
@@ -39,9 +35,7 @@ pub extern "C" fn vwrite_poll(
 // The session is released, or its end is put off.
 #[no_mangle]
 pub extern "C" fn vwrite_release(w: &mut W, files: &mut [VF], fat: &[u16], area: &[u8]) -> EndAnswer
-    ensures { λ r. ⌜ (r ≡ endAnswer (releaseCall (filesLending (now (fat .entry)) (now (area .entry)) (now (files .entry))) (now (w .entry))))
-        × (now (w .exit) ≡ releaseCall (filesLending (now (fat .entry)) (now (area .entry)) (now (files .entry))) (now (w .entry)) .w)
-        × (now (files .exit) ≡ withIds (now (files .entry)) (releaseCall (filesLending (now (fat .entry)) (now (area .entry)) (now (files .entry))) (now (w .entry)) .ids)) ⌝ }
+    ensures { λ r. ⌜ EndsBy releaseCall (now (fat .entry)) (now (area .entry)) (now (w .entry)) (now (files .entry)) r (now (w .exit)) (now (files .exit)) ⌝ }
 {
     let c = load(files);
     let o = release_columns(*w, c, fat, area);
@@ -59,9 +53,7 @@ pub extern "C" fn vwrite_release_all(
     fat: &[u16],
     area: &[u8],
 ) -> EndAnswer
-    ensures { λ r. ⌜ (r ≡ endAnswer (releaseAllCall (filesLending (now (fat .entry)) (now (area .entry)) (now (files .entry))) (now (w .entry)) reset))
-        × (now (w .exit) ≡ releaseAllCall (filesLending (now (fat .entry)) (now (area .entry)) (now (files .entry))) (now (w .entry)) reset .w)
-        × (now (files .exit) ≡ withIds (now (files .entry)) (releaseAllCall (filesLending (now (fat .entry)) (now (area .entry)) (now (files .entry))) (now (w .entry)) reset .ids)) ⌝ }
+    ensures { λ r. ⌜ EndsBy (λ x v. releaseAllCall x v reset) (now (fat .entry)) (now (area .entry)) (now (w .entry)) (now (files .entry)) r (now (w .exit)) (now (files .exit)) ⌝ }
 {
     let c = load(files);
     let o = release_all_columns(*w, c, fat, area, reset);
@@ -78,9 +70,7 @@ pub extern "C" fn vdisk_on_bus_reset(
     fat: &[u16],
     area: &[u8],
 ) -> EndAnswer
-    ensures { λ r. ⌜ (r ≡ endAnswer (busResetCall (filesLending (now (fat .entry)) (now (area .entry)) (now (files .entry))) (now (w .entry))))
-        × (now (w .exit) ≡ busResetCall (filesLending (now (fat .entry)) (now (area .entry)) (now (files .entry))) (now (w .entry)) .w)
-        × (now (files .exit) ≡ withIds (now (files .entry)) (busResetCall (filesLending (now (fat .entry)) (now (area .entry)) (now (files .entry))) (now (w .entry)) .ids)) ⌝ }
+    ensures { λ r. ⌜ EndsBy busResetCall (now (fat .entry)) (now (area .entry)) (now (w .entry)) (now (files .entry)) r (now (w .exit)) (now (files .exit)) ⌝ }
 {
     let c = load(files);
     let o = bus_reset_columns(*w, c, fat, area);

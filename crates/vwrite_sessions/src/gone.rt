@@ -5,11 +5,7 @@ use files::set_ids;
 use session_calls::HandedAnswer;
 use session_calls::find_columns;
 use session_calls::gone_columns;
-ghost use mathlib.Core.List.{map};
-ghost use mathlib.Core.Path.{_≡_};
-ghost use Rattle.files.specs.Files.{idOf, withIds};
-ghost use Rattle.sessions.specs.Sessions.{reportGone};
-ghost use Rattle.session_calls.specs.Calls.{FindsFile};
+ghost use Rattle.session_calls.specs.Calls.{FindsFile, ReportsBy};
 
 // A row whose file is handed, if there is one.
 #[no_mangle]
@@ -23,8 +19,7 @@ pub extern "C" fn vwrite_find_handed(files: &[VF]) -> HandedAnswer
 // The file of a row is gone: the refusal number.
 #[no_mangle]
 pub extern "C" fn vwrite_report_gone(files: &mut [VF], row: usize) -> u8
-    ensures { λ r. ⌜ (r ≡ reportGone (map idOf (now (files .entry))) row .number)
-        × (now (files .exit) ≡ withIds (now (files .entry)) (reportGone (map idOf (now (files .entry))) row .ids)) ⌝ }
+    ensures { λ r. ⌜ ReportsBy row (now (files .entry)) r (now (files .exit)) ⌝ }
 {
     let c = load(files);
     let o = gone_columns(c, row);

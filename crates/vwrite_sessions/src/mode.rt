@@ -5,12 +5,13 @@ use sessions::mode::read_only_pending;
 use sessions::mode::set_read_only;
 use state::w::W;
 ghost use mathlib.Core.Path.{_≡_};
-ghost use Rattle.sessions.specs.Sessions.{setReadOnly, readOnly, readOnlyPending, modeReset};
+ghost use Rattle.sessions.specs.Sessions.{readOnly, readOnlyPending};
+ghost use Rattle.session_calls.specs.Calls.{AsksMode, SetsMode};
 
 // Ask for the read-only drive, or the one that can be written.
 #[no_mangle]
 pub extern "C" fn vwrite_set_read_only(w: &mut W, on: bool)
-    ensures { λ _. ⌜ now (w .exit) ≡ setReadOnly (now (w .entry)) on ⌝ }
+    ensures { λ _. ⌜ AsksMode on (now (w .entry)) (now (w .exit)) ⌝ }
 {
     let s = set_read_only(*w, on);
     *w = s;
@@ -19,7 +20,7 @@ pub extern "C" fn vwrite_set_read_only(w: &mut W, on: bool)
 // The mode that was asked for is in force.
 #[no_mangle]
 pub extern "C" fn vwrite_on_bus_reset(w: &mut W)
-    ensures { λ _. ⌜ now (w .exit) ≡ modeReset (now (w .entry)) ⌝ }
+    ensures { λ _. ⌜ SetsMode (now (w .entry)) (now (w .exit)) ⌝ }
 {
     let s = mode_reset(*w);
     *w = s;

@@ -3,15 +3,13 @@ use file_table::VF;
 use files::load;
 use session_calls::start_columns;
 use state::w::W;
-ghost use mathlib.Core.Path.{_≡_};
 ghost use Rattle.file_table.specs.Table.{columns};
-ghost use Rattle.sessions.specs.Sessions.{start};
+ghost use Rattle.session_calls.specs.Calls.{StartsBy};
 
 // A start takes the table only if it is acceptable (10 otherwise, and the state stays), and sets the state anew; `first` is the first session cluster.
 #[no_mangle]
 pub extern "C" fn vwrite_start(w: &mut W, files: &[VF], first: u32) -> u8
-    ensures { λ r. ⌜ (r ≡ start (columns (now (files .entry)) first) (now (w .entry)) .number)
-        × (now (w .exit) ≡ start (columns (now (files .entry)) first) (now (w .entry)) .w) ⌝ }
+    ensures { λ r. ⌜ StartsBy (columns (now (files .entry)) first) (now (w .entry)) r (now (w .exit)) ⌝ }
 {
     let c = load(files);
     let o = start_columns(*w, c, first);

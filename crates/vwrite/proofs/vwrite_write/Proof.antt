@@ -26,8 +26,7 @@ use Rattle.files.proofs.Mixed.{holds}
 use Rattle.files.proofs.Locals.{alloc-all}
 use Rattle.outer_columns.proofs.Session.{val}
 use Rattle.outer_columns.proofs.Fields.{stats-val, early-val, early-is, tally-is, number-early, now-fits, last-fits, err-fits, stats-of, tally-last, tally-err, tally-stats, tallied-holds, early-typed, tally-typed, stats-typed, stats-makes, rw-at, last-at, now-at, err-at, stats-at, look-rw, look-last, look-now, look-err, look-stats, store-last, store-err, store-stats}
-use Rattle.files.specs.Files.{withIds}
-use Rattle.table_calls.specs.Calls.{filesWritten}
+use Rattle.table_calls.specs.Calls.{WritesBy}
 use Rattle.table_calls.specs.CallLaws.{early-by}
 use Rattle.write.specs.EarlyLaws.{earlyOf, tallied, tallyIn}
 use Rattle.state.specs.Setters.{withLast, withErr}
@@ -114,7 +113,7 @@ module _ {M : Type 1} (𝓤 : URA M) (H : Heap 𝓤) (A : Atoms 𝓤) (W : Given
 
   -- what is left: the number, the state, the files, the area
   abbrev Left : ℕ → Ses → List VF → List ℕ → Type 0
-  Left n v zs area-last = (n ≡ filesWritten lba (shown .now) (written .now) busy (fat .now) (area .now) fs h .number) × (v ≡ filesWritten lba (shown .now) (written .now) busy (fat .now) (area .now) fs h .w) × (zs ≡ withIds fs (filesWritten lba (shown .now) (written .now) busy (fat .now) (area .now) fs h .ids)) × (area-last ≡ filesWritten lba (shown .now) (written .now) busy (fat .now) (area .now) fs h .area)
+  Left n v zs area-last = WritesBy lba (shown .now) (written .now) busy (fat .now) (area .now) h fs n v zs area-last
 
   exits : (n : ℕ) (u : Val) (v : Ses) (zs : List VF) (area-last : List ℕ) → length zs ≡ length fs → length area-last ≡ length (area .now) → Left n v zs area-last
       → ent 𝓤 (⋆ 𝓤 H A (‵ (finally u8 (area .name) area-last) ∷ ‵ (finally F.the-row (files .name) zs) ∷ ‵ (fres γ (T.the-row .coded .code v)) ∷ ‵ (u8 .own n (u ∷ [])) ∷ (‵ (flft κ0 q0) ⊛ ‵ (flft κ1 q1) ⊛ ‵ (flft κ2 q2) ⊛ ‵ (flft κ3 q3) ⊛ ‵ (flft κ4 q4) ⊛ ‵ (flft κ5 q5) ⊛ ‵ ftrue) ∷ [])) (Post u)

@@ -24,8 +24,8 @@ use Rattle.files.specs.declared.Columns.{Columns}
 use Rattle.file_table.proofs.VF as F
 use Rattle.files.proofs.Columns as K
 use Rattle.files.proofs.Columns.Laws as K′
-use Rattle.files.specs.Files.{idOf, rowsTaken, columnsOf, withIds}
-use Rattle.sessions.specs.Sessions.{reportGone}
+use Rattle.files.specs.Files.{rowsTaken, columnsOf, withIds}
+use Rattle.session_calls.specs.Calls.{ReportsBy}
 use Rattle.session_calls.specs.CallLaws.{LeavesGone, gone-by}
 use Rattle.session_calls.specs.declared.Reported.{Reported}
 use Rattle.session_calls.proofs.Reported as O
@@ -64,7 +64,7 @@ ids-in r = map (λ v. v) (r .ids)
 
 -- what the call leaves of the files, by what it leaves of their columns
 abbrev Left : List VF → ℕ → Reported → List VF → Type 0
-Left fs i r zs = (r .no ≡ reportGone (map idOf fs) i .number) × (zs ≡ withIds fs (reportGone (map idOf fs) i .ids))
+Left fs i r zs = ReportsBy i fs (r .no) zs
 
 settles : (fs : List VF) (i : ℕ) (c : Columns) (r : Reported) (zs : List VF) → c ≡ columnsOf fs → LeavesGone c i (r .no) (r .ids) → zs ≡ withIds fs (take (rowsTaken (length fs)) (ids-in r)) → Left fs i r zs
 settles fs i c r zs e₁ e₂ e₃ =

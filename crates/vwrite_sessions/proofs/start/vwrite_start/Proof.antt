@@ -25,7 +25,8 @@ use Rattle.files.proofs.Columns as K
 use Rattle.files.proofs.Columns.Laws as K′
 use Rattle.file_table.specs.Table.{columns}
 use Rattle.files.specs.Files.{columnsOf}
-use Rattle.sessions.specs.Sessions.{Started, start}
+use Rattle.sessions.specs.Sessions.{Started}
+use Rattle.session_calls.specs.Calls.{StartsBy}
 use Rattle.session_calls.specs.CallLaws.{LeavesStart, starts-by}
 use Rattle.state.specs.declared.w.W.{W as Ses}
 use Rattle.state.specs.declared.w.Answer.{Answer}
@@ -84,7 +85,7 @@ module _ {M : Type 1} (𝓤 : URA M) (H : Heap 𝓤) (A : Atoms 𝓤) (W : Given
   Post = walkOf 𝓤 H A f.ended stayed (f.clauses 𝓤 H A at-mem run) .post (((κ0, (κ1, tt)), (q0, (q1, tt)), tt, x, at), tt)
 
   abbrev Left : Answer → Type 0
-  Left r = (r .no ≡ start (columns (files .now) first) h .number) × (r .w ≡ start (columns (files .now) first) h .w)
+  Left r = StartsBy (columns (files .now) first) h (r .no) (r .w)
 
   settles : (c : Columns) (r : Answer) → c ≡ columnsOf (files .now) → LeavesStart c first h (r .no) (r .w) → Left r
   settles c r e₁ e₂ =
