@@ -1,5 +1,5 @@
 //! Takes vwrite.rs and vdisk.rs from beside the repository as they are and appends the hooks. As the package `numbered`, each refusal of vwrite.rs
-//! also notes its number of document 01. With COMPARE_EDIT=N the N-th wrong edit of `edits.txt` is made first, which the comparison must notice.
+//! also notes its number of document 01. With COMPARE_EDIT=N the N-th wrong edit (crate `edited`) is made first.
 use std::path::{Path, PathBuf};
 use std::{env, fs};
 
@@ -38,48 +38,29 @@ fn with_numbers(text: &str) -> String {
     out + rest
 }
 
-/// The edits of edits.txt: a line `== FILE`, lines `-- ` of old text, lines `++ ` of new.
-fn edits(list: &str) -> Vec<(String, String, String)> {
-    let mut out: Vec<(String, String, String)> = vec![];
-    for line in list.lines().filter(|l| !l.starts_with('#')) {
-        match (line.get(..3), out.last_mut()) {
-            (Some("== "), _) => out.push((line[3..].to_string(), String::new(), String::new())),
-            (Some("-- "), Some(e)) => e.1 += &format!("{}\n", &line[3..]),
-            (Some("++ "), Some(e)) => e.2 += &format!("{}\n", &line[3..]),
-            _ => {}
-        }
-    }
-    out
-}
-
-/// The text after the edit that COMPARE_EDIT names, whose old text stands once in its file.
-fn edited(name: &str, text: String) -> String {
+/// The two files, after the edit that COMPARE_EDIT names.
+fn edited() -> [String; 2] {
     println!("cargo:rerun-if-env-changed=COMPARE_EDIT");
-    let Ok(n) = env::var("COMPARE_EDIT") else { return text };
+    let mut texts = edited::FILES.map(taken);
+    let Ok(n) = env::var("COMPARE_EDIT") else { return texts };
     let path = Path::new(env!("CARGO_MANIFEST_DIR")).join("../edits.txt");
     println!("cargo:rerun-if-changed={}", path.display());
-    let list = edits(&fs::read_to_string(path).expect("edits.txt"));
-    let (file, old, new) = &list[n.parse::<usize>().expect("COMPARE_EDIT is a number")];
-    if file != name {
-        return text;
-    }
-    let old = old.trim_end_matches('\n');
-    assert_eq!(text.matches(old).count(), 1, "edit {n}: its old text stands not once in {name}");
-    text.replacen(old, new.trim_end_matches('\n'), 1)
+    let all = edited::list(&texts, &fs::read_to_string(path).expect("edits.txt"));
+    let edit = &all[n.parse::<usize>().expect("COMPARE_EDIT is a number")];
+    let which = edited::FILES.iter().position(|f| *f == edit.file).unwrap();
+    texts[which] = edit.on(&texts[which]);
+    texts
 }
 
 fn main() {
     let here = Path::new(env!("CARGO_MANIFEST_DIR")).join("../original");
     let out = PathBuf::from(env::var_os("OUT_DIR").unwrap());
     let number = env::var("CARGO_PKG_NAME").unwrap() == "numbered";
-    for name in ["vwrite.rs", "vdisk.rs"] {
+    let texts = if number { edited::FILES.map(taken) } else { edited() };
+    for (name, text) in edited::FILES.into_iter().zip(texts) {
         let hooks = here.join("src").join(format!("{}_hooks.rs", &name[..name.len() - 3]));
         println!("cargo:rerun-if-changed={}", hooks.display());
-        let text = match (number, name) {
-            (true, "vwrite.rs") => with_numbers(&taken(name)),
-            (true, _) => taken(name),
-            _ => edited(name, taken(name)),
-        };
+        let text = if number && name == "vwrite.rs" { with_numbers(&text) } else { text };
         fs::write(out.join(name), format!("{text}\n{}", fs::read_to_string(hooks).unwrap())).unwrap();
     }
     let mods = format!("#[path = {:?}]\npub mod vwrite;\n#[path = {:?}]\npub mod vdisk_rs;\n", out.join("vwrite.rs"), out.join("vdisk.rs"));

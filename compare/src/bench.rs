@@ -108,6 +108,22 @@ fn write(name: &str, s: &mut Start, change: &Change, number: u8) -> (u64, u64) {
     t
 }
 
+/// Sectors that no file of the table has to do with: refused ones, and dates, which are dropped.
+fn refusals(s: &mut Start) {
+    let byte = |lba: u32, at: usize| Change { lba, edits: vec![(at, vec![b'X'])] };
+    let (info, debug, logs) = (DATA_START, DATA_START + SPC, DATA_START + 2 * SPC);
+    write("refused: FAT[0]", s, &hosts::entries(&[(0, 7)], 1)[0], 4);
+    write("refused: fixed data", s, &hosts::data(100, 0, &[1; 512]), 5);
+    write("refused: the root's own slot", s, &byte(509, 0), 7);
+    write("refused: a root slot", s, &hosts::root_slots(40, &[hosts::slot(b"README  TXT", 0x20, 60_000, 5)])[0], 8);
+    write("refused: a slot of LOGS", s, &byte(logs, 64), 9);
+    write("refused: a slot of INFO", s, &byte(info, 64), 9);
+    write("refused: a slot of DEBUG", s, &byte(debug, 64), 9);
+    write("dates of the root", s, &byte(509, 0x16), 0);
+    write("dates of LOGS", s, &byte(logs, 0x16), 0);
+    write("dates of INFO", s, &byte(info, 0x16), 0);
+}
+
 /// Times do not add up over kinds, so a session of mixed writes is timed whole.
 fn session(s: &mut Start) {
     let mut r = Rng::new(3);
@@ -118,7 +134,8 @@ fn session(s: &mut Start) {
     }
     let clusters: Vec<u32> = (60_000..60_004).collect();
     changes.extend(hosts::directory(&mut r, 0, 61_000, 40));
-    changes.extend(hosts::update(&mut r, &clusters, 60, 100_000));
+    let bytes = hosts::noise(&mut r, 100_000);
+    changes.extend(hosts::update(&mut r, &clusters, 60, &bytes));
     r.shuffle(&mut changes);
     set(s);
     let mut calls = vec![];
@@ -146,7 +163,8 @@ fn update(s: &mut Start, size: u32) {
     let mut r = Rng::new(5);
     let clusters: Vec<u32> = (60_000..60_000 + size.div_ceil(CB)).collect();
     set(s);
-    for c in hosts::update(&mut r, &clusters, 60, size) {
+    let bytes = hosts::noise(&mut r, size as usize);
+    for c in hosts::update(&mut r, &clusters, 60, &bytes) {
         let g = original::generated(c.lba);
         let d = c.on(&g);
         assert!(original::write(c.lba, &g, &d, false).taken);
@@ -190,8 +208,7 @@ pub fn run() {
         ours_write(&mut s, held.lba, &g, &held.on(&g));
         write("staged again", &mut s, &held, 0);
         s.w = kept;
-        write("refused: FAT[0]", &mut s, &hosts::entries(&[(0, 7)], 1)[0], 4);
-        write("refused: fixed data", &mut s, &hosts::data(100, 0, &[1; 512]), 5);
+        refusals(&mut s);
         if n > 0 {
             let (f, last) = (s.files[0], s.files[n - 1]);
             write("FAT frees 2 clusters", &mut s, &hosts::zero(&last, 1)[0], 0);

@@ -10,6 +10,9 @@ mod sessions;
 pub struct Counts {
     pub calls: BTreeMap<&'static str, u64>,
     pub numbers: [u64; 22],
+    /// Bodies made valid, and made wrong.
+    pub valid: u64,
+    pub wrong: u64,
 }
 
 impl Counts {
@@ -87,8 +90,12 @@ impl Both {
         numbered::set_area(at, bytes);
     }
 
+    /// Of long values only the parts that differ are told.
     fn differ(&self, what: &str, rust: impl std::fmt::Debug, ours: impl std::fmt::Debug) -> ! {
-        panic!("{what} differs after {}\n  the Rust: {rust:?}\n  ours:     {ours:?}", self.last);
+        let (short, rust, ours) = (format!("{rust:?}").len() < 200, format!("{rust:#?}"), format!("{ours:#?}"));
+        let parts = rust.lines().zip(ours.lines()).enumerate().filter(|(_, (a, b))| short || a != b).take(20);
+        let told: Vec<String> = parts.map(|(i, (a, b))| format!("  {i:>5}  the Rust: {:<30}  ours: {}", a.trim(), b.trim())).collect();
+        panic!("{what} differs after {}\n{}", self.last, told.join("\n"));
     }
 
     /// State, table and medium are equal.

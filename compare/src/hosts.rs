@@ -154,18 +154,27 @@ pub fn naming(r: &mut Rng, files: &[File]) -> Sector {
     s
 }
 
-/// An update copied: its root slot, its chain over the clusters, its sectors.
-pub fn update(r: &mut Rng, clusters: &[u32], at: u32, size: u32) -> Vec<Change> {
+/// An update copied: its root slot, its chain over the clusters, its sectors, with anything behind its end in the last one.
+pub fn update(r: &mut Rng, clusters: &[u32], at: u32, bytes: &[u8]) -> Vec<Change> {
     let name: &[u8; 11] = r.pick(&[b"DM40FW  BIN", b"dm40_opebin", b"DM40    BIN"]);
-    let mut all = root_slots(at, &[slot(name, 0x20, clusters[0] as u16, size)]);
+    let mut all = root_slots(at, &[slot(name, 0x20, clusters[0] as u16, bytes.len() as u32)]);
     let chain: Vec<(u32, u16)> = clusters.iter().enumerate().map(|(i, &c)| (c, clusters.get(i + 1).map_or(0xFFFF, |&n| n as u16))).collect();
     all.extend(entries(&chain, 1 + r.below(2) as u32));
-    for k in 0..size.div_ceil(512) {
-        let mut s = [0; 512];
-        if !r.one_in(5) {
-            s.iter_mut().for_each(|b| *b = r.next() as u8);
-        }
-        all.push(data(clusters[(k / SPC) as usize], k % SPC, &s));
+    for (k, part) in bytes.chunks(512).enumerate() {
+        let mut s = [r.next() as u8; 512];
+        s[..part.len()].copy_from_slice(part);
+        all.push(data(clusters[k / SPC as usize], k as u32 % SPC, &s));
     }
     all
+}
+
+/// Bytes of no file in particular, one sector in five zeros.
+pub fn noise(r: &mut Rng, size: usize) -> Vec<u8> {
+    let mut bytes = vec![0; size];
+    for sector in bytes.chunks_mut(512) {
+        if !r.one_in(5) {
+            sector.iter_mut().for_each(|b| *b = r.next() as u8);
+        }
+    }
+    bytes
 }

@@ -1,5 +1,6 @@
 //! The proved judge beside the Rust that it replaces: the same calls to both, everything compared after each.
 mod bench;
+mod bodies;
 mod both;
 mod hosts;
 mod lines;
@@ -47,6 +48,7 @@ fn tell(both: &Both) {
     for (number, n) in c.numbers.iter().enumerate() {
         println!("{n:>10} {number}");
     }
+    println!("{:>10} bodies found valid, {} not, of update files made valid or wrong in one byte", c.valid, c.wrong);
     println!("no difference");
 }
 

@@ -2,7 +2,14 @@
 use super::*;
 
 impl Both {
-    pub fn body(&mut self, start: u32, size: u32) {
+    /// The body check of a file that was made `valid`, or not.
+    pub fn body_made(&mut self, start: u32, size: u32, valid: bool) {
+        let r = self.body(start, size);
+        self.equal("the answer, as the file was made", Body { no: 0, valid }, r);
+        *if valid { &mut self.counts.valid } else { &mut self.counts.wrong } += 1;
+    }
+
+    pub fn body(&mut self, start: u32, size: u32) -> Body {
         self.last = format!("body check {start} {size}");
         let r = unsafe { vwrite_body_check(&self.w, self.fat.as_ptr(), self.lent.0, self.area.as_ptr(), self.lent.1, start, size) };
         self.counts.add("body check", r.no);
@@ -13,6 +20,7 @@ impl Both {
         };
         self.equal("the answer", rust, r);
         self.same();
+        r
     }
 
     /// A start; `acceptable` is what document 01 says of the table.

@@ -4,7 +4,7 @@ use crate::both::Both;
 use crate::hosts;
 use crate::rng::Rng;
 use crate::tables;
-use bindings::{Done, Pair, Rec, St, State, Stats, LAST_CLUSTER};
+use bindings::{Done, File, Pair, Rec, St, State, Stats, LAST_CLUSTER};
 
 /// A chain over staged clusters, its last link and what is staged about right.
 fn chain(r: &mut Rng, w: &mut State) -> (u32, u32) {
@@ -35,6 +35,51 @@ pub fn chains(r: &mut Rng, both: &mut Both) {
     for size in [size, size + 1, size.saturating_sub(1), 127, 128, size.div_ceil(bindings::CB) * bindings::CB] {
         both.complete(start, size);
         both.body(start, size);
+    }
+}
+
+/// Files freed of which one cluster has a pair already, whichever row they stand in; no call leaves such a state.
+pub fn freed_with_pair(r: &mut Rng, both: &mut Both) {
+    let file = |j: u16| File { id: j + 1, slot: j + 2, vstart: 512 + 2 * j, src: 3, ssize: 9, vsize: 2 * bindings::CB };
+    let files: Vec<File> = (0..r.pick(&[1, 31, 34, 66, 400])).map(file).collect();
+    for _ in 0..20 {
+        let mut w = State::new(7);
+        w.rw = true;
+        let f = files[r.below(files.len())];
+        let paired = f.vstart + r.below(2) as u16;
+        w.pair[r.below(bindings::NPAIR)] = Pair { c: paired, v: r.pick(&[2, 0xFFF8, 0xFFFF]) };
+        both.set(w, &files, &[], &[]);
+        for change in hosts::zero(&f, 1) {
+            let shown = original::generated(change.lba);
+            both.write(change.lba, &shown, &change.on(&shown), false);
+        }
+    }
+}
+
+/// A turned file and a staged slot that names it, but for one byte of the slot; then the release, which looks again.
+pub fn naming_slots(r: &mut Rng, both: &mut Both) {
+    let (mut files, first) = tables::table(r, 3);
+    for f in &mut files {
+        f.id |= 0x1000;
+    }
+    let (fat, area) = tables::medium(r, 8, 1);
+    let mut w = State::new(first);
+    w.rw = true;
+    both.set(w, &files, &fat, &area);
+    let Some(&c) = super::free_clusters(r, both, 1).first() else { return };
+    for at in 0..32 {
+        let f = files[r.below(files.len())];
+        let named = hosts::slot(b"LOG007  CSV", 0x20, f.vstart, f.vsize);
+        for value in [0, 1, 0x05, 0x08, 0x0F, 0x10, 0x18, 0x2F, 0x4F, 0xE5, 0xFF, named[at] ^ 1] {
+            let mut sector = [0; 512];
+            let place = 32 * r.below(16);
+            sector[place..place + 32].copy_from_slice(&named);
+            sector[place + at] = value;
+            both.set_session(w, &files);
+            let change = hosts::data(c, r.range(0, 63), &sector);
+            both.write(change.lba, &[0; 512], &sector, false);
+            both.release_all(false);
+        }
     }
 }
 

@@ -3,7 +3,7 @@ use super::{begin, reads};
 use crate::both::Both;
 use crate::hosts;
 use crate::rng::Rng;
-use bindings::{File, DATA_START, SPC, TOTAL};
+use bindings::{File, State, DATA_START, SPC, TOTAL};
 
 pub fn all(r: &mut Rng, both: &mut Both) {
     begin(r, both, 3);
@@ -18,6 +18,7 @@ pub fn all(r: &mut Rng, both: &mut Both) {
     values(r, both);
     names(r, both);
     staging(r, both);
+    waits(r, both);
     for _ in 0..4 {
         reads(r, both);
     }
@@ -40,6 +41,25 @@ fn places(both: &mut Both) {
         both.write(lba, &g, &d, false);
         both.write(lba, &g, &d, true);
     }
+}
+
+/// Both sides of every wait: the quiet time, in ticks and in `frozen`, and the time that an end is held back.
+fn waits(r: &mut Rng, both: &mut Both) {
+    let (w, files) = (both.w, both.files.clone());
+    let at = r.range(1, 100_000) as u64;
+    for after in [0, 1, 1_499, 1_500, 1_501, 59_999, 60_000, 60_001] {
+        for (session, locks, end_at) in [(true, false, 0), (false, false, 0), (true, true, 0), (true, false, at), (false, true, at)] {
+            let state = State { rw: true, session, locks, last: at, now_ms: at + after, end_at, ..w };
+            both.set_session(state, &files);
+            both.queries(false);
+            both.queries(true);
+            for mounted in [false, true] {
+                both.set_session(state, &files);
+                both.poll(at + after, mounted);
+            }
+        }
+    }
+    both.set_session(w, &files);
 }
 
 /// 1 and 10, which the Rust has no answer for.

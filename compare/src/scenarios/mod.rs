@@ -1,8 +1,10 @@
-//! Where the calls come from: sessions of hosts, damaged ones, random sectors, limits, states set directly.
+//! Where the calls come from: sessions of hosts, damaged ones, update files, names, random sectors, limits, states set directly.
 mod direct;
 mod limits;
+mod names;
 mod random;
 mod sessions;
+mod updates;
 
 use crate::both::Both;
 use crate::rng::Rng;
@@ -10,12 +12,20 @@ use bindings::State;
 
 pub fn run(seed: u64, both: &mut Both) {
     let mut r = Rng::new(seed);
-    match r.below(16) {
+    match r.below(20) {
         0..=5 => sessions::session(&mut r, both, false),
         6..=8 => sessions::session(&mut r, both, true),
         9..=11 => random::writes(&mut r, both),
-        12..=13 => direct::states(&mut r, both),
+        12 => direct::states(&mut r, both),
+        13 => match r.below(3) {
+            0 => direct::freed_with_pair(&mut r, both),
+            1 => direct::naming_slots(&mut r, both),
+            _ => direct::states(&mut r, both),
+        },
         14 => (0..20).for_each(|_| direct::chains(&mut r, both)),
+        15..=16 => updates::bodies(&mut r, both),
+        17 => updates::every_sector(&mut r, both),
+        18 => names::all(&mut r, both),
         _ => limits::all(&mut r, both),
     }
 }

@@ -114,7 +114,8 @@ fn root_slot(r: &mut Rng, both: &Both, d: &mut Sector, at: usize) {
             }
         }
         _ => {
-            let mut e = hosts::slot(name, r.pick(&[0x20, 0x20, 0x00, 0x10, 0x08, 0x0F, 0xCF]), c, size);
+            let any = r.next() as u8;
+            let mut e = hosts::slot(name, r.pick(&[0x20, 0x20, 0x00, 0x10, 0x08, 0x0F, 0xCF, any]), c, size);
             if r.one_in(5) {
                 e[r.pick(&[0x14, 0x15, 0x0D, 0x1B])] = r.next() as u8;
             }

@@ -43,7 +43,8 @@ fn task(r: &mut Rng, both: &Both) -> Vec<Change> {
             if clusters.len() < size.div_ceil(bindings::CB) as usize {
                 return vec![];
             }
-            hosts::update(r, &clusters, at, size)
+            let bytes = hosts::noise(r, size as usize);
+            hosts::update(r, &clusters, at, &bytes)
         }
         6 => {
             let clusters = free_clusters(r, both, 3);
