@@ -92,13 +92,13 @@ pub fn hazard(r: &mut Rng, plain: &Plain) -> Option<Plain> {
     Some(Plain { bytes, valid: false })
 }
 
-/// The bytes as they are copied: the device's decoding gives them back.
+/// The bytes as they are copied: the device's decoding gives them back. A block that it can't decode stays as it is.
 pub fn scrambled(plain: &Plain) -> Vec<u8> {
     let mut bytes = plain.bytes.clone();
     for block in bytes.chunks_mut(BLOCK).filter(|b| b.len() > ADD) {
         let add = block[ADD];
         let at = key_at(add);
-        let key = block.get(at).copied().unwrap_or(0);
+        let Some(&key) = block.get(at) else { continue };
         for (_, b) in block.iter_mut().enumerate().filter(|(i, _)| *i != ADD && *i != at) {
             *b = b.wrapping_add(add) ^ key;
         }

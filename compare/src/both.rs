@@ -215,8 +215,9 @@ impl Both {
         self.last = format!("complete {start} {size}");
         let r = unsafe { vwrite_complete(&self.w, start, size) };
         self.counts.add("complete", 0);
-        let (slots, n) = original::complete(start, size).unwrap_or(([0; bindings::NST], 0));
-        self.equal("the answer", Chain { found: n != 0, slots, n }, r);
+        let rust = original::complete(start, size);
+        let (slots, n) = rust.unwrap_or(([0; bindings::NST], 0));
+        self.equal("the answer", Chain { found: rust.is_some(), slots, n }, r);
     }
 
     pub fn layout(&mut self, c: u32, size: u32) {

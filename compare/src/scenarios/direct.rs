@@ -83,6 +83,35 @@ pub fn naming_slots(r: &mut Rng, both: &mut Both) {
     }
 }
 
+/// Sectors of a parked block: written as they read, zeros where none is staged, other data, which copies the block.
+pub fn parked(r: &mut Rng, both: &mut Both) {
+    let (fat, mut area) = tables::medium(r, 12, 2);
+    area[..4096].iter_mut().for_each(|b| *b = r.next() as u8);
+    let mut w = State::new(7);
+    (w.rw, w.staging, w.hint) = (true, r.one_in(2), r.range(0, 12));
+    let c = r.range(7, LAST_CLUSTER);
+    let (block, map) = (r.below(8), r.next());
+    w.st[r.below(bindings::NST)] = St { c: c as u16, ro: 1 << block | r.next() as u8, map, ..St::default() };
+    for s in w.st.iter_mut().filter(|s| s.c != 0) {
+        s.blk[block] = 2;
+    }
+    both.set(w, &[], &fat, &area);
+    for q in 0..8 {
+        let s = block as u32 * 8 + q;
+        let mut read = [0; 512];
+        if map >> s & 1 == 1 {
+            read.copy_from_slice(&area[q as usize * 512..q as usize * 512 + 512]);
+        }
+        let mut other = read;
+        other[r.below(512)] ^= 1;
+        for written in [read, [0; 512], other] {
+            both.set(w, &[], &fat, &area);
+            both.write(hosts::data(c, s, &written).lba, &[0; 512], &written, false);
+            both.staged_read(c, s);
+        }
+    }
+}
+
 pub fn states(r: &mut Rng, both: &mut Both) {
     let n = file_count(r);
     let (mut files, first) = tables::table(r, n);

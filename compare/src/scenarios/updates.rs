@@ -7,7 +7,7 @@ use crate::rng::Rng;
 use crate::tables;
 use bindings::{Pair, St, State, CB, LAST_CLUSTER, NST, SPC};
 
-/// Sizes at the edges of blocks, sectors, the marker and clusters, and any.
+/// Sizes at the edges of blocks and of what a short block holds, of sectors, the marker and clusters, and any.
 fn size(r: &mut Rng) -> usize {
     let any = r.range(128, 5_000);
     let long = r.range(128, 70_000);
@@ -17,7 +17,7 @@ fn size(r: &mut Rng) -> usize {
         1 => 28 * CB - r.range(0, 2),
         2..=4 => long,
         5..=16 => edge,
-        17..=20 => r.range(128, 160),
+        17..=24 => r.range(1, 40) * 128 + r.pick(&[0, 1, 30, 31, 32, 33, 64, 65, 127]),
         _ => any,
     }) as usize
 }
