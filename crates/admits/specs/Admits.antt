@@ -1,5 +1,5 @@
--- Which sectors the rules of document 01 admit, place by place and without a number (document 01, "Judging a sector"), in the paper's own numbers and
--- byte by byte. That the handlers' own tests say the same is proved in AdmitLaws.
+-- Which sectors the rules of document 01 admit, place by place and without a number (document 01, "Judging a sector"), byte by byte and entry by entry.
+-- That the handlers' own tests say the same is proved in the files of laws.
 use Prim.Native.Nat.{ℕ, _+_, _*_, _/_, _%_}
 use mathlib.Core.Bool.{Bool, true, false, not, _&&_, _||_}
 use mathlib.Core.List.{List}

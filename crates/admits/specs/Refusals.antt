@@ -33,7 +33,7 @@ unfoldable pub fatRefusal : SectorWrite → W → ℕ → ℕ
 fatRefusal x w s =
     pick (all (entryAdmits x w s) 256 0) 14 (entryRefusal x w s (first (λ i. not (entryAdmits x w s i)) 256 0))
 
--- 7 for a root slot 0 to 6, 8 for one not admitted, by the first byte that may not differ; "then 15"
+-- 7 for a root slot 0 to 6, 8 for one not admitted, by the first byte that differs and may not; "then 15"
 unfoldable pub rootRefusal : SectorWrite → W → ℕ → ℕ
 rootRefusal x w s =
     pick (onlyBytes x (rootByte x w s)) 15

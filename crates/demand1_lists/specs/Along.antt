@@ -17,7 +17,7 @@ use Rattle.demand1_sessions.specs.Ends.{MayEnd, clockSet, heldEndDue, tickEnds}
 use Rattle.demand1_sessions.specs.Demand1.{Reports, Starts}
 use Rattle.demand3.specs.Step.{Session, Medium, Call, write, poll, release, releaseAll, busReset, resetMode, setReadOnly, report, refusedStart, sectorOf, lent}
 
--- a tick of a session, where t is its state with the clock set
+-- a tick of a session, where v is its state with the clock set
 abbrev pub TicksListed : Table → Session → ℕ → Bool → Medium → W → Type 0
 TicksListed t s clock mounted m v =
     MayEnd (lent t s m) (s .w) v (pick (heldEndDue v) (withEndAt v 0) v) false (s .w .rw) (tickEnds v mounted) (pollCall (lent t s m) (s .w) clock mounted)

@@ -1,5 +1,5 @@
 -- Demand 1 of the calls that make a session, and of those that only read, as statements over the definitions that the calls' contracts cite:
--- "any call given what it turns down ends with one listed refusal number, touches only what was lent, and leaves FAT pairs, root records, file
+-- any call given what it turns down "ends with one listed refusal number, touches only what was lent, and leaves FAT pairs, root records, file
 -- marks, FAT[1] and the boot byte as before"; and what a call changes that is not turned down. `Demand1Calls`, at the end, claims them of all
 -- the calls; `demand-1-calls` in Theorem proves it.
 use Prim.Native.Nat.{ℕ, _<_}

@@ -51,7 +51,7 @@ pub record Lasts (w v : W) : Type 0 where
   pub n : v .n ≡ w .n
   pub first : v .first ≡ w .first
 
--- no session, time of a write, staging, decided file, end held back or parked file is left
+-- no session, time of a write, staging, decided file, end held back or count of parked files is left
 pub record Closed (v : W) : Type 0 where
   pub session : v .session ≡ false
   pub last : v .last ≡ 0

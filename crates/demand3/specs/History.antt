@@ -157,6 +157,8 @@ pub record Demand3 (t : Table) (h : History) : Type 0 where
   -- entries in that sector, one shown non-zero, or at a release a staged sector held an ordinary slot with its start and length"
   pub safe : (j : ℕ) → j < length (t .ids) → So (handed (idOf (h .session) j))
       → So (turnedIn t j (lately j h)) × So (zeroedIn t j (lately j h) || namedIn t j (lately j h))
+  -- no file is handed that was reported gone since
+  pub present : (j : ℕ) → j < length (t .ids) → So (handed (idOf (h .session) j)) → So (not (goneIn t j (lately j h)))
   -- "A file turned and zeroed so, and not reported gone since that start or release, is handed"
   pub complete : (j : ℕ) → j < length (t .ids) → So (turnedIn t j (lately j h)) → So (zeroedIn t j (lately j h)) → So (not (goneIn t j (lately j h)))
       → So (handed (idOf (h .session) j))

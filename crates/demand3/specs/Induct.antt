@@ -142,6 +142,7 @@ module _ (t : Table) (Good : Session → Type 0)
 -- what is told of a row is what demand 3 says of it
 pub record Row (t : Table) (j : ℕ) (h : History) : Type 0 where
   pub safe : So (handed (idOf (h .session) j)) → So (turnedIn t j (lately j h)) × So (zeroedIn t j (lately j h) || namedIn t j (lately j h))
+  pub present : So (handed (idOf (h .session) j)) → So (not (goneIn t j (lately j h)))
   pub complete : So (turnedIn t j (lately j h)) → So (zeroedIn t j (lately j h)) → So (not (goneIn t j (lately j h))) → So (handed (idOf (h .session) j))
 
 handed-of : (a b c : Bool) → a ≡ true → b ≡ true → c ≡ false → (a && b && not c) ≡ true
@@ -154,5 +155,6 @@ told-demand t j h k =
     record {
       safe = λ e. let a = and-0 (turned id && freed id) (not (gone id)) e in
           (sym (k .turn) ∙ and-0 (turned id) (freed id) a, k .free (and-1 (turned id) (freed id) a));
+      present = λ e. ap not (sym (k .left)) ∙ and-1 (turned id && freed id) (not (gone id)) e;
       complete = λ p q r. handed-of (turned id) (freed id) (gone id) (k .turn ∙ p) (k .keep q) (k .left ∙ not-no _ r);
     }

@@ -2,7 +2,7 @@
 pub mod Step
 pub mod History
 pub mod Induct
-pub mod Ends
+pub mod EndLaws
 pub mod Releases
 pub mod Theorem
 pub mod EitherLaws

@@ -27,7 +27,7 @@ use Rattle.sessions.specs.Sessions.{Reported, modeReset, setReadOnly as readOnl
 use Rattle.demand3.specs.Step.{Session, Outcome, Medium, Sector, Call, write, poll, release, releaseAll, busReset, resetMode, setReadOnly, report, refusedStart, sectorOf, lent, ofEnded, ofReported, step, idOf}
 use Rattle.demand3.specs.History.{Event, seen, goneBy, namedNow, ofStaged, event, run, next, begun, sinceBy, lately, Clean, History, Each, none, more, Demand3}
 use Rattle.demand3.specs.Induct.{Effect, held-on, Told, told-run, told-none, told-demand}
-use Rattle.demand3.specs.Ends.{EndsAs, releaseAll-ends, releaseCall-ends, busReset-ends, poll-ends}
+use Rattle.demand3.specs.EndLaws.{EndsAs, releaseAll-ends, releaseCall-ends, busReset-ends, poll-ends}
 use Rattle.demand3.specs.Releases.{release-effect, release-settles, release-kept}
 
 abbrev pub Good : Table → Session → Type 0
@@ -228,6 +228,7 @@ unfolding event
 demand-3 t fine cs =
     record {
       safe = λ j l. told-demand t j (run t (begun t) cs) (told t fine cs j l) .safe;
+      present = λ j l. told-demand t j (run t (begun t) cs) (told t fine cs j l) .present;
       complete = λ j l. told-demand t j (run t (begun t) cs) (told t fine cs j l) .complete;
       held = λ j l. each-run t fine _ (λ c s k. held-on t j (event t c s) (effect t fine c s k j l)) cs (begun t) (kept-start t) none;
       clean = each-run t fine _ (λ c s k. demand-3-clean t c s) cs (begun t) (kept-start t) none;

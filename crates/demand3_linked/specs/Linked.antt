@@ -119,12 +119,13 @@ abbrev pub lentHistory : List VF → ℕ → List Call → Lent → History
 lentHistory files first cs after = record { session = sessionOf after; trace = historyOf files first cs .trace }
 
 -- What the finder answers of the table that a list of calls left. The file of a row that it finds was turned, and zeroed or named, "since the start or the
--- release that last left it unmarked"; and it finds one where a file was turned and zeroed so, "and not reported gone since that start or release".
+-- release that last left it unmarked", and not reported gone; and it finds one where a file was turned and zeroed so, "and not reported gone since that start or release".
 pub record FinderTells (t : Table) (h : History) (r : HandedAnswer) : Type 0 where
   -- there are up to 400 files, since a start took the table
   pub number : r .no ≡ 0
   pub row : So (r .found) → r .row < length (t .ids)
   pub safe : So (r .found) → So (turnedIn t (r .row) (lately (r .row) h))
       × So (zeroedIn t (r .row) (lately (r .row) h) || namedIn t (r .row) (lately (r .row) h))
+  pub present : So (r .found) → So (not (goneIn t (r .row) (lately (r .row) h)))
   pub complete : (j : ℕ) → j < length (t .ids) → So (turnedIn t j (lately j h)) → So (zeroedIn t j (lately j h)) → So (not (goneIn t j (lately j h)))
       → So (r .found)

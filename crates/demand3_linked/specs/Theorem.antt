@@ -89,6 +89,7 @@ module _ (files : List VF) (first : ℕ) (begin : Lent) (started : Started files
         number = either (r .found) (λ f. e .1 few f .0) (λ f. e .2 few f .0);
         row = inside;
         safe = λ f. d .safe (r .row) (inside f) (sym (linked-handed k (r .row)) ∙ e .1 few f .2);
+        present = λ f. d .present (r .row) (inside f) (sym (linked-handed k (r .row)) ∙ e .1 few f .2);
         complete = λ j l p q n. either (r .found) (λ f. f)
             (λ f. absurd (true≢false (sym (linked-handed k j ∙ d .complete j l p q n) ∙ e .2 few f .2 j (rw rows at l))));
       }
