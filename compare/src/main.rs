@@ -19,9 +19,10 @@ compare answers FILE             the Rust's answers to the lines of FILE, as the
 compare bench                    times of both sides, and their ratio";
 
 fn one(seed: u64, both: &mut Both) -> Result<(), String> {
-    catch_unwind(AssertUnwindSafe(|| scenarios::run(seed, both))).map_err(|e| match e.downcast_ref::<String>() {
-        Some(s) => s.clone(),
-        None => "a panic".to_string(),
+    catch_unwind(AssertUnwindSafe(|| scenarios::run(seed, both))).map_err(|e| match (e.downcast_ref::<String>(), e.downcast_ref::<&str>()) {
+        (Some(told), _) => told.clone(),
+        (_, Some(told)) => format!("a panic: {told}"),
+        _ => "a panic".to_string(),
     })
 }
 

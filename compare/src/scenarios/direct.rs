@@ -56,9 +56,13 @@ pub fn freed_with_pair(r: &mut Rng, both: &mut Both) {
     }
 }
 
-/// A turned file and a staged slot that names it, but for one byte of the slot; then the release, which looks again.
+/// A turned file and a staged slot that names it, but for one byte of the slot; then the release, which looks again, with the file marked as moved and
+/// without.
 pub fn naming_slots(r: &mut Rng, both: &mut Both) {
     let (mut files, first) = tables::table(r, 3);
+    if files.is_empty() {
+        return;
+    }
     for f in &mut files {
         f.id |= 0x1000;
     }
@@ -78,6 +82,9 @@ pub fn naming_slots(r: &mut Rng, both: &mut Both) {
             both.set_session(w, &files);
             let change = hosts::data(c, r.range(0, 63), &sector);
             both.write(change.lba, &[0; 512], &sector, false);
+            let staged = both.w;
+            both.release_all(false);
+            both.set_session(staged, &files);
             both.release_all(false);
         }
     }
@@ -109,6 +116,31 @@ pub fn parked(r: &mut Rng, both: &mut Both) {
             both.write(hosts::data(c, s, &written).lba, &[0; 512], &written, false);
             both.staged_read(c, s);
         }
+    }
+}
+
+/// One thing held and no other, or none: whether there was anything to release.
+pub fn one_held(r: &mut Rng, both: &mut Both) {
+    let (fat, area) = tables::medium(r, 6, 2);
+    both.set(State::new(7), &[], &fat, &area);
+    for what in 0..7 {
+        let mut w = State::new(7);
+        w.rw = true;
+        match what {
+            0 => w.session = true,
+            1 => w.boot = 1,
+            2 => w.fat1 = 0x1_FFFF,
+            3 => w.rec[r.below(bindings::NREC)] = Rec { slot: r.range(7, 511) as u16, e: hosts::slot(b"DM40FW  BIN", 0x20, 9, 128) },
+            4 => w.pair[r.below(bindings::NPAIR)] = Pair { c: 9, v: 0xFFFF },
+            5 => w.st[r.below(bindings::NST)] = staged(r, 9, fat.len()),
+            _ => {}
+        }
+        both.set_session(w, &[]);
+        both.release();
+        both.set_session(w, &[]);
+        both.release_all(r.one_in(2));
+        both.set_session(w, &[]);
+        both.bus_reset();
     }
 }
 
