@@ -183,7 +183,9 @@ fn crc(s: &mut Start) {
     for n in [128, 512, 600_000] {
         let bytes = vec![0x5A; n];
         let runs = if n > 1000 { 101 } else { 2001 };
-        both(&format!("CRC of {n} bytes"), s, runs, &mut || told(original::crc16(7, &bytes)), &mut |_| told(unsafe { vwrite_crc16(7, bytes.as_ptr(), n) }));
+        both(&format!("CRC of {n} bytes"), s, runs, &mut || told(original::crc16(7, &bytes)), &mut |_| {
+            told(unsafe { vwrite_crc16(7, bytes.as_ptr(), n) })
+        });
     }
 }
 

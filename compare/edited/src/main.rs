@@ -8,7 +8,8 @@ use std::sync::Mutex;
 use std::time::{Duration, Instant};
 use std::{env, fs, thread};
 
-const USAGE: &str = "edits [--list] [--from N] [WORD]   every edit, or those from the N-th on, or whose name begins with WORD; --list only names them";
+const USAGE: &str =
+    "edits [--list] [--from N] [WORD]   every edit, or those from the N-th on, or whose name begins with WORD; --list only names them";
 const SCENARIOS: &str = "1500";
 /// A run that takes longer hangs.
 const LIMIT: Duration = Duration::from_secs(60);
@@ -51,7 +52,12 @@ fn notices(n: usize, worker: usize) -> Option<bool> {
     if !built.success() {
         return None;
     }
-    let mut run = Command::new(target.join("edited/compare")).args(["run", "1", SCENARIOS]).stdout(Stdio::null()).stderr(Stdio::null()).spawn().expect("compare");
+    let mut run = Command::new(target.join("edited/compare"))
+        .args(["run", "1", SCENARIOS])
+        .stdout(Stdio::null())
+        .stderr(Stdio::null())
+        .spawn()
+        .expect("compare");
     let since = Instant::now();
     loop {
         if let Some(status) = run.try_wait().expect("compare") {
