@@ -119,6 +119,30 @@ pub fn parked(r: &mut Rng, both: &mut Both) {
     }
 }
 
+/// The record of an update file, but for one byte, with something staged: whether a release is put off, where that file was decided and where not.
+pub fn undecided(r: &mut Rng, both: &mut Both) {
+    both.set(State::new(7), &[], &[], &[]);
+    let mut e = hosts::slot(b"DM40FW  BIN", 0x20, 9, 128 + r.range(0, 2));
+    e[0x0C..0x1A].fill(0x41);
+    for at in 0..32 {
+        for value in [0, 1, 0x08, 0x0F, 0x10, 0x18, 0x21, 0x4F, 0x7F, 0x80, 0xE5, e[at] ^ 1, e[at]] {
+            let mut w = State::new(7);
+            let slot = r.pick(&[0, 1, 7, 511]);
+            w.ver = r.pick(&[0, 5]);
+            w.done = Done { slot, start: 9, size: u32::from_le_bytes([e[0x1C], e[0x1D], e[0x1E], e[0x1F]]), ver: w.ver };
+            if r.one_in(3) {
+                w.done = r.pick(&[Done::default(), Done { slot: slot + 1, ..w.done }, Done { start: 10, ..w.done }, Done { size: 0, ..w.done }]);
+            }
+            let mut changed = e;
+            changed[at] = value;
+            w.rec[r.below(bindings::NREC)] = Rec { slot, e: changed };
+            w.st[r.below(bindings::NST)].c = r.pick(&[9, 9, 9, 0]);
+            both.set_session(w, &[]);
+            both.release();
+        }
+    }
+}
+
 /// One thing held and no other, or none: whether there was anything to release.
 pub fn one_held(r: &mut Rng, both: &mut Both) {
     let (fat, area) = tables::medium(r, 6, 2);

@@ -22,6 +22,9 @@ pub fn all(r: &mut Rng, both: &mut Both) {
     for _ in 0..4 {
         reads(r, both);
     }
+    for c in [0, 1, 2, 3, 4, 6, 7, both.w.first - 1, both.w.first, 65_001, 65_002, 65_003, 65_536, u32::MAX] {
+        both.layout(c, c);
+    }
     for (c, s) in [(0, 64), (9, 64), (9, u32::MAX), (65_001, 63)] {
         both.staged_read(c, s);
     }

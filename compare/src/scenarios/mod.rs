@@ -17,11 +17,12 @@ pub fn run(seed: u64, both: &mut Both) {
         6..=8 => sessions::session(&mut r, both, true),
         9..=11 => random::writes(&mut r, both),
         12 => direct::states(&mut r, both),
-        13 => match r.below(5) {
+        13 => match r.below(6) {
             0 => direct::freed_with_pair(&mut r, both),
             1 => direct::naming_slots(&mut r, both),
             2 => direct::parked(&mut r, both),
             3 => direct::one_held(&mut r, both),
+            4 => direct::undecided(&mut r, both),
             _ => direct::states(&mut r, both),
         },
         14 => (0..20).for_each(|_| direct::chains(&mut r, both)),
