@@ -27,6 +27,7 @@ pub fn run(seed: u64, both: &mut Both) {
         },
         14 => (0..20).for_each(|_| direct::chains(&mut r, both)),
         15..=16 => updates::bodies(&mut r, both),
+        17 if r.one_in(3) => updates::every_short_block(&mut r, both),
         17 => updates::every_sector(&mut r, both),
         18 => names::all(&mut r, both),
         _ => limits::all(&mut r, both),

@@ -77,6 +77,23 @@ fn checked(both: &mut Both, clusters: &[u32], made: &Plain) {
     both.body_made(clusters[0], made.bytes.len() as u32, made.valid);
 }
 
+/// A file of one whole block and a short one of every length: valid, with its key past the end, and with one byte wrong.
+pub fn every_short_block(r: &mut Rng, both: &mut Both) {
+    let start = r.range(7, LAST_CLUSTER);
+    let mut w = State::new(7);
+    w.pair[0] = Pair { c: start as u16, v: 0xFFFF };
+    w.st[0] = St { c: start as u16, map: 1, blk: [2, 0, 0, 0, 0, 0, 0, 0], ..St::default() };
+    both.set(w, &[], &[0; 3], &[0x5A; 4096]);
+    for short in 0..128 {
+        let plain = bodies::valid(r, 128 + short);
+        let wrong = bodies::nearly(r, &plain);
+        for made in [bodies::hazard(r, &plain), Some(wrong), Some(plain)].into_iter().flatten() {
+            both.set_area(0, &bodies::scrambled(&made));
+            checked(both, &[start], &made);
+        }
+    }
+}
+
 /// A chain with exactly the sectors that a size asks for, and one less, at every number of sectors of its last cluster.
 pub fn every_sector(r: &mut Rng, both: &mut Both) {
     let n = r.range(1, NST as u32);
