@@ -133,11 +133,7 @@ fn at_token(text: &str, tokens: &[Token], i: usize) -> Vec<(Range<usize>, String
 
 /// A number and one more, and one less.
 fn numbers(word: &str) -> Vec<String> {
-    let digits = word.trim_end_matches(|c: char| c == 'u' || c == 'i').to_string();
-    let (digits, suffix) = match word.find('u') {
-        Some(i) => (&word[..i], &word[i..]),
-        None => (&digits[..], ""),
-    };
+    let (digits, suffix) = word.split_at(word.find('u').unwrap_or(word.len()));
     let plain = digits.replace('_', "");
     let value = match plain.strip_prefix("0x") {
         Some(hex) => u64::from_str_radix(hex, 16),

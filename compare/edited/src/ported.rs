@@ -7,7 +7,7 @@ pub struct Part {
 }
 
 /// Functions by name; `HOUSEKEEPING` and the waits are constants.
-const VWRITE: [&str; 46] = [
+const VWRITE: [&str; 50] = [
     "const NREC",
     "const NPAIR",
     "const NST",
@@ -54,9 +54,11 @@ const VWRITE: [&str; 46] = [
     "fn complete",
     "fn decode_block",
     "fn crc16_upd",
+    "fn check",
+    "fn release_all",
+    "fn release",
+    "fn fw_unchecked",
 ];
-
-const VWRITE_ENDS: [&str; 4] = ["fn check", "fn release_all", "fn release", "fn fw_unchecked"];
 
 const VDISK: [&str; 5] = ["fn id_dir", "fn nclus", "fn owner", "fn dir_kind", "fn on_bus_reset"];
 
@@ -64,8 +66,8 @@ const VDISK: [&str; 5] = ["fn id_dir", "fn nclus", "fn owner", "fn dir_kind", "f
 const POLL_ENDS: &str = "if !spi_free()";
 
 pub fn parts(file: &str, text: &str) -> Vec<Part> {
-    let names: Vec<&'static str> = if file == "vdisk.rs" { VDISK.to_vec() } else { VWRITE.into_iter().chain(VWRITE_ENDS).collect() };
-    names.into_iter().map(|name| Part { name, at: part(text, name) }).collect()
+    let names: &[&'static str] = if file == "vdisk.rs" { &VDISK } else { &VWRITE };
+    names.iter().map(|name| Part { name, at: part(text, name) }).collect()
 }
 
 fn part(text: &str, name: &str) -> Range<usize> {
