@@ -14,6 +14,7 @@ use Rattle.files.specs.declared.Columns.{Columns}
 use Rattle.state.specs.declared.w.W.{W}
 use Rattle.release.specs.Release.{Lending, lending, Ended}
 use Rattle.sessions.specs.Sessions.{Reported, reportGone, Started, start, setReadOnly, modeReset}
+use Rattle.session_calls.specs.declared.End.{End}
 use Rattle.session_calls.specs.declared.EndAnswer.{EndAnswer}
 use Rattle.session_calls.specs.declared.HandedAnswer.{HandedAnswer}
 
@@ -24,6 +25,10 @@ filesLending fat area files = lending fat area (map idOf files) (map startOf fil
 -- what a call that may end the session answers
 abbrev pub endAnswer : Ended → EndAnswer
 endAnswer e = record { no = e .number; ended = e .ended; had = e .had }
+
+-- a number and what is written beside it, as one answer
+abbrev pub endWith : ℕ → End → EndAnswer
+endWith n e = record { no = n; ended = e .ended; had = e .had }
 
 -- What each call leaves, in its contract and in demand 3's lists alike. A call that may end the session, by its definition: the answer, the state, the
 -- table with its ids.

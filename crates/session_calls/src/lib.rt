@@ -23,14 +23,20 @@ ghost use Rattle.session_calls.specs.Calls.{endAnswer, columnsEnded, col
 
 // What a call that may end the session answers: the refusal number; 0 where no release was due, 1 where one ran to its end, 2 where it was put
 // off; whether there was anything to release.
-#[repr(C)]
 pub struct EndAnswer {
     pub no: u8,
     pub ended: u8,
     pub had: bool,
 }
 
-// ... with the state and the ids then.
+// What is written beside the number where the caller lends the room: a small struct that is handed back passes differently on 32-bit machines.
+#[repr(C)]
+pub struct End {
+    pub ended: u8,
+    pub had: bool,
+}
+
+// The answer with the state and the ids then.
 pub struct Closed {
     pub answer: EndAnswer,
     pub w: W,

@@ -2,7 +2,7 @@
 use file_table::VF;
 use files::load;
 use files::set_ids;
-use session_calls::EndAnswer;
+use session_calls::End;
 use session_calls::bus_reset_columns;
 use session_calls::poll_columns;
 use session_calls::release_all_columns;
@@ -11,7 +11,7 @@ use state::w::W;
 ghost use Rattle.release.specs.Release.{releaseCall, releaseAllCall};
 ghost use Rattle.sessions.specs.Poll.{pollCall};
 ghost use Rattle.sessions.specs.Sessions.{busResetCall};
-ghost use Rattle.session_calls.specs.Calls.{EndsBy};
+ghost use Rattle.session_calls.specs.Calls.{EndsBy, endWith};
 
 // A tick of the clock, which ends the session where its end is due or it is quiet.
 #[no_mangle]
@@ -22,26 +22,42 @@ pub extern "C" fn vwrite_poll(
     mounted: bool,
     fat: &[u16],
     area: &[u8],
-) -> EndAnswer
-    ensures { λ r. ⌜ EndsBy (λ x v. pollCall x v clock mounted) (now (fat .entry)) (now (area .entry)) (now (w .entry)) (now (files .entry)) r (now (w .exit)) (now (files .exit)) ⌝ }
+    end: &mut End,
+) -> u8
+    ensures { λ r. ⌜ EndsBy (λ x v. pollCall x v clock mounted) (now (fat .entry)) (now (area .entry))
+        (now (w .entry)) (now (files .entry)) (endWith r (now (end .exit))) (now (w .exit)) (now (files .exit)) ⌝ }
 {
     let c = load(files);
     let o = poll_columns(*w, c, fat, area, clock, mounted);
     set_ids(files, o.ids);
     *w = o.w;
-    o.answer
+    *end = End {
+        ended: o.answer.ended,
+        had: o.answer.had,
+    };
+    o.answer.no
 }
 
 // The session is released, or its end is put off.
 #[no_mangle]
-pub extern "C" fn vwrite_release(w: &mut W, files: &mut [VF], fat: &[u16], area: &[u8]) -> EndAnswer
-    ensures { λ r. ⌜ EndsBy releaseCall (now (fat .entry)) (now (area .entry)) (now (w .entry)) (now (files .entry)) r (now (w .exit)) (now (files .exit)) ⌝ }
+pub extern "C" fn vwrite_release(
+    w: &mut W,
+    files: &mut [VF],
+    fat: &[u16],
+    area: &[u8],
+    end: &mut End,
+) -> u8
+    ensures { λ r. ⌜ EndsBy releaseCall (now (fat .entry)) (now (area .entry)) (now (w .entry)) (now (files .entry)) (endWith r (now (end .exit))) (now (w .exit)) (now (files .exit)) ⌝ }
 {
     let c = load(files);
     let o = release_columns(*w, c, fat, area);
     set_ids(files, o.ids);
     *w = o.w;
-    o.answer
+    *end = End {
+        ended: o.answer.ended,
+        had: o.answer.had,
+    };
+    o.answer.no
 }
 
 // The session is released; locks go only on a reset.
@@ -52,14 +68,20 @@ pub extern "C" fn vwrite_release_all(
     reset: bool,
     fat: &[u16],
     area: &[u8],
-) -> EndAnswer
-    ensures { λ r. ⌜ EndsBy (λ x v. releaseAllCall x v reset) (now (fat .entry)) (now (area .entry)) (now (w .entry)) (now (files .entry)) r (now (w .exit)) (now (files .exit)) ⌝ }
+    end: &mut End,
+) -> u8
+    ensures { λ r. ⌜ EndsBy (λ x v. releaseAllCall x v reset) (now (fat .entry)) (now (area .entry)) (now (w .entry)) (now (files .entry))
+        (endWith r (now (end .exit))) (now (w .exit)) (now (files .exit)) ⌝ }
 {
     let c = load(files);
     let o = release_all_columns(*w, c, fat, area, reset);
     set_ids(files, o.ids);
     *w = o.w;
-    o.answer
+    *end = End {
+        ended: o.answer.ended,
+        had: o.answer.had,
+    };
+    o.answer.no
 }
 
 // A bus reset: the session is released, and the mode that was asked for is in force.
@@ -69,12 +91,17 @@ pub extern "C" fn vdisk_on_bus_reset(
     files: &mut [VF],
     fat: &[u16],
     area: &[u8],
-) -> EndAnswer
-    ensures { λ r. ⌜ EndsBy busResetCall (now (fat .entry)) (now (area .entry)) (now (w .entry)) (now (files .entry)) r (now (w .exit)) (now (files .exit)) ⌝ }
+    end: &mut End,
+) -> u8
+    ensures { λ r. ⌜ EndsBy busResetCall (now (fat .entry)) (now (area .entry)) (now (w .entry)) (now (files .entry)) (endWith r (now (end .exit))) (now (w .exit)) (now (files .exit)) ⌝ }
 {
     let c = load(files);
     let o = bus_reset_columns(*w, c, fat, area);
     set_ids(files, o.ids);
     *w = o.w;
-    o.answer
+    *end = End {
+        ended: o.answer.ended,
+        had: o.answer.had,
+    };
+    o.answer.no
 }
