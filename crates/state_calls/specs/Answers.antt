@@ -1,6 +1,6 @@
 -- The answers of the calls that only read: an enum's, with this paper's number and the values of each case.
 use Prim.Native.Nat.{ℕ}
-use mathlib.Core.Bool.{Bool, true, false}
+use mathlib.Core.Bool.{true, false}
 use mathlib.Core.List.{List, map}
 use lib.Dec.{ltb}
 use lib.ListN.{length, take}
@@ -13,13 +13,9 @@ use Rattle.file_table.specs.Table.{maxFiles}
 use Rattle.file_table.specs.declared.VF.{VF}
 use Rattle.files.specs.Files.{startOf, sizeOf}
 use Rattle.files.specs.declared.Columns.{Columns}
-use Rattle.state_calls.specs.declared.NamedAnswer.{NamedAnswer}
 use Rattle.state_calls.specs.declared.PairAnswer.{PairAnswer}
 use Rattle.state_calls.specs.declared.DirAnswer.{DirAnswer}
 use Rattle.state_calls.specs.declared.OwnAnswer.{OwnAnswer}
-
-abbrev pub namedAnswer : Bool → NamedAnswer
-namedAnswer b = record { named = b }
 
 unfoldable pub pairAnswer : PairOf → PairAnswer
 pairAnswer (PairOf.Value v) = record { found = true; v = v }

@@ -9,6 +9,8 @@ use records::RootRec;
 use root_slots::Strict;
 use state::pairs::PairOf;
 use state::pairs::pair_of;
+use state::w::NST;
+use state::w::St;
 use state::w::W;
 use vdisk::drive::DirKind;
 use vdisk::owner::Own;
@@ -21,7 +23,7 @@ ghost use Rattle.medium.specs.Reads.{stagedAnswer, stagedBytes, movedRef};
 ghost use Rattle.chains.specs.Chains.{completeOf};
 ghost use Rattle.body.specs.Body.{bodyOf};
 ghost use Rattle.root_slots.specs.RootSlots.{strictOf};
-ghost use Rattle.state_calls.specs.Answers.{namedAnswer, pairAnswer, dirAnswer, ownAnswer, columnsOwner};
+ghost use Rattle.state_calls.specs.Answers.{pairAnswer, dirAnswer, ownAnswer, columnsOwner};
 
 // The host's FAT entry of a cluster: is there one, and its value, 0 where there is none.
 #[repr(C)]
@@ -44,12 +46,6 @@ pub struct OwnAnswer {
     pub no: u8,
     pub owner: u8,
     pub row: usize,
-}
-
-// Does a staged sector name a file.
-#[repr(C)]
-pub struct NamedAnswer {
-    pub named: bool,
 }
 
 pub fn staged_read(w: W, fat: &[u16], area: &[u8], c: u32, s: u32, out: &mut [u8]) -> StagedRead
@@ -161,11 +157,8 @@ pub fn owner(t: Columns, first: u32, c: u32) -> OwnAnswer
 }
 
 // Does a staged sector hold an ordinary slot with that start and size.
-pub fn named(w: W, fat: &[u16], area: &[u8], start: u16, size: u32) -> NamedAnswer
-    ensures { λ r. ⌜ r ≡ namedAnswer (movedRef (now (fat .entry)) (now (area .entry)) (w .st) start size) ⌝ }
+pub fn named(st: [St; NST], fat: &[u16], area: &[u8], start: u16, size: u32) -> bool
+    ensures { λ r. ⌜ r ≡ movedRef (now (fat .entry)) (now (area .entry)) st start size ⌝ }
 {
-    let st = w.st;
-    NamedAnswer {
-        named: moved_ref(fat, area, st, start, size),
-    }
+    moved_ref(fat, area, st, start, size)
 }

@@ -4,32 +4,24 @@ use reasons::after_end;
 use reasons::after_gone;
 use reasons::after_write;
 use state::w::W;
-use state_calls::NamedAnswer;
 use state_calls::named;
 ghost use mathlib.Core.Path.{_≡_};
 ghost use Rattle.medium.specs.Reads.{movedRef};
-ghost use Rattle.state_calls.specs.Answers.{namedAnswer};
 ghost use Rattle.reasons.specs.Reasons.{afterWrite, afterEnd, afterGone};
 
 // Does a staged sector hold an ordinary slot with that start and size, as the medium stands.
 #[no_mangle]
-pub extern "C" fn vwrite_named(
-    w: &W,
-    fat: &[u16],
-    area: &[u8],
-    start: u16,
-    size: u32,
-) -> NamedAnswer
-    ensures { λ r. ⌜ r ≡ namedAnswer (movedRef (now (fat .entry)) (now (area .entry)) (now (w .entry) .st) start size) ⌝ }
+pub extern "C" fn vwrite_named(w: &W, fat: &[u16], area: &[u8], start: u16, size: u32) -> bool
+    ensures { λ r. ⌜ r ≡ movedRef (now (fat .entry)) (now (area .entry)) (now (w .entry) .st) start size ⌝ }
 {
-    named(*w, fat, area, start, size)
+    named(w.st, fat, area, start, size)
 }
 
 // What the calls held of a file, after a write that answered `number`: whether a staged sector named the file before it, and whether it staged
 // its sector.
 #[no_mangle]
 pub extern "C" fn vwrite_after_write(
-    r: Reason,
+    r: &mut Reason,
     id: u16,
     slot: u16,
     start: u16,
@@ -40,11 +32,11 @@ pub extern "C" fn vwrite_after_write(
     written: &[u8],
     named: bool,
     staged: bool,
-) -> Reason
-    ensures { λ a. ⌜ a ≡ afterWrite r id slot start size number lba (now (shown .entry)) (now (written .entry)) named staged ⌝ }
+)
+    ensures { λ _. ⌜ now (r .exit) ≡ afterWrite (now (r .entry)) id slot start size number lba (now (shown .entry)) (now (written .entry)) named staged ⌝ }
 {
-    after_write(
-        r,
+    let a = after_write(
+        *r,
         id,
         slot,
         start,
@@ -55,21 +47,24 @@ pub extern "C" fn vwrite_after_write(
         written,
         named,
         staged,
-    )
+    );
+    *r = a;
 }
 
 // ... after a call that may end the session: what it answered as ended, the file's id then, and whether a staged sector named it before.
 #[no_mangle]
-pub extern "C" fn vwrite_after_end(r: Reason, ended: u8, id: u16, named: bool) -> Reason
-    ensures { λ a. ⌜ a ≡ afterEnd r ended id named ⌝ }
+pub extern "C" fn vwrite_after_end(r: &mut Reason, ended: u8, id: u16, named: bool)
+    ensures { λ _. ⌜ now (r .exit) ≡ afterEnd (now (r .entry)) ended id named ⌝ }
 {
-    after_end(r, ended, id, named)
+    let a = after_end(*r, ended, id, named);
+    *r = a;
 }
 
 // ... after a report of gone of `row` that answered `number`; the file is in row `j`.
 #[no_mangle]
-pub extern "C" fn vwrite_after_gone(r: Reason, number: u8, row: usize, j: usize) -> Reason
-    ensures { λ a. ⌜ a ≡ afterGone r number row j ⌝ }
+pub extern "C" fn vwrite_after_gone(r: &mut Reason, number: u8, row: usize, j: usize)
+    ensures { λ _. ⌜ now (r .exit) ≡ afterGone (now (r .entry)) number row j ⌝ }
 {
-    after_gone(r, number, row, j)
+    let a = after_gone(*r, number, row, j);
+    *r = a;
 }

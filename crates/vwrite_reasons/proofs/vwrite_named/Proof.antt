@@ -1,29 +1,33 @@
--- `vwrite_reasons::vwrite_named` meets its contract: a walk of its MIR, by hand. The state is looked into for its value, which the covered function takes.
-use Rattle.files.proofs.Walk.{_≡_, refl, ℕ, _<_, _^_, _+_, _*_, _-_, [], _∷_, List, URA, fullShare, named, w8, w16, w32, tyInt, Val, vint, vptr, SProp, ent, id⊢, emp, via, fst∗, GName, Lft, Share, ftrue, fat as fcell, flft, Memory, Routine, Heap, Calls, Loops, WpFn, Tables, Atoms, Fun}
+-- `vwrite_reasons::vwrite_named` meets its contract: a walk of its MIR, by hand. The state is looked into for its staging slots, which the covered function takes.
+use Rattle.files.proofs.Walk.{_≡_, refl, ℕ, _<_, _^_, _+_, _*_, _-_, [], _∷_, List, URA, fullShare, named, w8, w16, w32, tyInt, tyBool, Val, vint, vptr, SProp, ent, id⊢, emp, via, fst∗, GName, Lft, Share, ftrue, fat as fcell, flft, Memory, Routine, Heap, Calls, Loops, WpFn, Tables, Atoms, Fun}
 use Rattle.files.proofs.Walk.{givenOf, tables, tablesOf, Given, ‵, raw, ⋆, _⊛_, _$_, _∵_, !, qed, by, move, drop, use1, split, join, fsplit, fsplit3, fjoin, fjoin3, feqI, suffices, frame, done}
-use Rattle.files.proofs.Walk.{look, look-raw, init, stop, hop, from, load, of-opd, and-then, no-more, assigns, land, returns, enter, params1, pass1, pass0, free0, FmC, fmOf, WpFn-mono}
+use Rattle.files.proofs.Walk.{look, init, stop, hop, fld, from, load, of-opd, and-then, no-more, assigns, land, returns, enter, params1, pass1, pass0, free0, FmC, fmOf, WpFn-mono}
 use Rattle.files.proofs.Walk.{owns, Is, shows, uint-vals, uint-tells, uint-makes, u8, u16, u32, RefT, ptr-vals, sliceVal, ShrSlice, Room, slice-vals, shr-slice-tells, shr-slice-copy, plain, owned, peeks, heard, nothing}
 use Rattle.files.proofs.Walk.{onEntry, Meets, tripleOf, Contract, Triple, calls-at, entered, cited, says, Stays, stay-none, stay-none-slice, walkOf, goes-none, goes-none-slice, ends-at, walked, walk-meets, yes}
+use mathlib.Core.Bool.{Bool}
 use lib.ListN.{length}
-use mir.Syntax.{imm, tyRef}
+use mir.Syntax.{imm, tyRef, tyArray}
 use base.Fml.{froom, fdies, fres, fshr-bor}
 use prog.Wp.{Env}
 use types.Kit.{runs, atRet, Sq}
+use denote.Array.{Array, array-lawful, array-makes}
+use denote.Builtin.{bool}
 use denote.Memory.{pointee, partAt}
+use denote.Plain.{bool-lawful}
 use denote.Ref.{ShrRef, shr-tells}
 use denote.Slice.{sliceTy}
 use denote.Steps.{shuts}
 use denote.Triple.Walked.{stay-none-ref, goes-none-ref}
 use Rattle.files.proofs.Outer.{looked, answered, gone}
 use Rattle.files.proofs.Locals.{alloc-all}
-use Rattle.outer_columns.proofs.Session.{val, state-typed, state-makes}
+use Rattle.outer_columns.proofs.Session.{val}
+use Rattle.outer_columns.proofs.Fields.{look-field}
+use Rattle.outer_data.proofs.Stores.{slots-val, slots-of, slots-given, slot-makes, st-at}
 use denote.Struct.Laws as LL
-use Rattle.state_calls.specs.declared.NamedAnswer.{NamedAnswer}
-use Rattle.state_calls.proofs.NamedAnswer as R
-use Rattle.state_calls.proofs.NamedAnswer.Laws as R′
 use Rattle.medium.specs.Reads.{movedRef}
-use Rattle.state_calls.specs.Answers.{namedAnswer}
 use Rattle.state.specs.declared.w.W.{W as Ses}
+use Rattle.state.proofs.w.St as Q
+use Rattle.state.proofs.w.St.Laws as Q′
 use Rattle.state.proofs.w.W as T
 use Rattle.state.proofs.w.W.Laws as T′
 use Rattle.state_calls.proofs.named as g
@@ -60,38 +64,44 @@ module _ {M : Type 1} (𝓤 : URA M) (H : Heap 𝓤) (A : Atoms 𝓤) (W : Given
   abbrev Post : Val → SProp 𝓤
   Post = walkOf 𝓤 H A f.ended stayed (f.clauses 𝓤 H A at-mem run) .post (((κ0, (κ1, (κ2, tt))), (q0, (q1, (q2, tt))), tt, x, at), tt)
 
-  abbrev Told : NamedAnswer → Type 0
-  Told r = r ≡ namedAnswer (movedRef (fat .now) (area .now) (h .st) start size)
+  abbrev Told : Bool → Type 0
+  Told r = r ≡ movedRef (fat .now) (area .now) (h .st) start size
 
-  exits : (r : NamedAnswer) (v : Val) → Told r → ent 𝓤 (⋆ 𝓤 H A (‵ (fres γ (T.the-row .coded .code h)) ∷ ‵ (fshr-bor κ0 (λ s. partAt T.the-row s h b o)) ∷ ‵ (flft κ0 q0) ∷ (‵ (flft κ1 q1) ⊛ ‵ (flft κ2 q2) ⊛ ‵ ftrue) ∷ ‵ (ShrSlice (named 1) κ1 u16 .own fat (slice-vals fat)) ∷ ‵ (ShrSlice (named 2) κ2 u8 .own area (slice-vals area)) ∷ ‵ (R.the-row .own r (v ∷ [])) ∷ [])) (Post v)
+  exits : (r : Bool) (v : Val) → Told r → ent 𝓤 (⋆ 𝓤 H A (‵ (fres γ (T.the-row .coded .code h)) ∷ ‵ (fshr-bor κ0 (λ s. partAt T.the-row s h b o)) ∷ ‵ (flft κ0 q0) ∷ (‵ (flft κ1 q1) ⊛ ‵ (flft κ2 q2) ⊛ ‵ ftrue) ∷ ‵ (ShrSlice (named 1) κ1 u16 .own fat (slice-vals fat)) ∷ ‵ (ShrSlice (named 2) κ2 u8 .own area (slice-vals area)) ∷ ‵ (bool .own r (v ∷ [])) ∷ [])) (Post v)
   exits r v e =
-      qed W (‵ (fres γ (T.the-row .coded .code h)) ∷ ‵ (fshr-bor κ0 (λ s. partAt T.the-row s h b o)) ∷ ‵ (flft κ0 q0) ∷ (‵ (flft κ1 q1) ⊛ ‵ (flft κ2 q2) ⊛ ‵ ftrue) ∷ ‵ (ShrSlice (named 1) κ1 u16 .own fat (slice-vals fat)) ∷ ‵ (ShrSlice (named 2) κ2 u8 .own area (slice-vals area)) ∷ ‵ (R.the-row .own r (v ∷ [])) ∷ []) ∵
+      qed W (‵ (fres γ (T.the-row .coded .code h)) ∷ ‵ (fshr-bor κ0 (λ s. partAt T.the-row s h b o)) ∷ ‵ (flft κ0 q0) ∷ (‵ (flft κ1 q1) ⊛ ‵ (flft κ2 q2) ⊛ ‵ ftrue) ∷ ‵ (ShrSlice (named 1) κ1 u16 .own fat (slice-vals fat)) ∷ ‵ (ShrSlice (named 2) κ2 u8 .own area (slice-vals area)) ∷ ‵ (bool .own r (v ∷ [])) ∷ []) ∵
       suffices ! _ (ends-at 𝓤 H A f.ended stayed (f.clauses 𝓤 H A at-mem run) W (((κ0, (κ1, (κ2, tt))), (q0, (q1, (q2, tt))), tt, x, at), tt) v r (tt, (tt, (tt, (tt, (tt, tt))))) (tt, (tt, (tt, (tt, (tt, tt)))))) $ says ! e $
       move ! (2 ∷ 3 ∷ []) $ join ! $ frame ! $ feqI ! (List Val) (vptr b o ∷ []) (vptr b o ∷ []) refl $ fjoin3 ! $ nothing ! $ owned ! u32 (Is u32) (uint-makes 𝓤 H A W w32) size _ (refl, size-fits) $ fjoin ! $ owned ! u16 (Is u16) (uint-makes 𝓤 H A W w16) start _ (refl, start-fits) $ fjoin ! $ move ! (3 ∷ 0 ∷ []) $ fjoin ! $ move ! (2 ∷ 0 ∷ []) $ fjoin ! $ move ! (1 ∷ 0 ∷ []) $ fjoin ! $ done !
 
-  abbrev to : Callee 𝓤 H A at-mem run .Ghost
-  to = (((κ1, (κ2, tt)), (q1, (q2, tt)), tt, (h, (fat, (area, (start, (size, tt))))), (val h ∷ [], (slice-vals fat, (slice-vals area, (vint w16 start ∷ [], (vint w32 size ∷ [], tt)))))), tt)
+  abbrev Held : Type 0
+  Held = Is (Array Q.the-row 28) (h .st) (slots-val (h .st) ∷ [])
 
-  goes : Is T.the-row h (val h ∷ []) → ent 𝓤 (⋆ 𝓤 H A ((‵ (flft κ1 q1) ⊛ ‵ (flft κ2 q2) ⊛ ‵ ftrue) ∷ ‵ (ShrSlice (named 1) κ1 u16 .own fat (slice-vals fat)) ∷ ‵ (ShrSlice (named 2) κ2 u8 .own area (slice-vals area)) ∷ [])) (Callee 𝓤 H A at-mem run .pre to)
-  goes is = qed W ((‵ (flft κ1 q1) ⊛ ‵ (flft κ2 q2) ⊛ ‵ ftrue) ∷ ‵ (ShrSlice (named 1) κ1 u16 .own fat (slice-vals fat)) ∷ ‵ (ShrSlice (named 2) κ2 u8 .own area (slice-vals area)) ∷ []) ∵ nothing ! $ owned ! u32 (Is u32) (uint-makes 𝓤 H A W w32) size _ (refl, size-fits) $ fjoin ! $ owned ! u16 (Is u16) (uint-makes 𝓤 H A W w16) start _ (refl, start-fits) $ fjoin ! $ move ! (3 ∷ 0 ∷ []) $ fjoin ! $ move ! (2 ∷ 0 ∷ []) $ fjoin ! $ owned ! T.the-row (Is T.the-row) (state-makes 𝓤 H A W) h _ is $ fjoin ! $ move ! (1 ∷ 0 ∷ []) $ join ! $ nothing ! $ move ! (1 ∷ 0 ∷ []) $ done !
+  abbrev to : Callee 𝓤 H A at-mem run .Ghost
+  to = (((κ1, (κ2, tt)), (q1, (q2, tt)), tt, (h .st, (fat, (area, (start, (size, tt))))), (slots-val (h .st) ∷ [], (slice-vals fat, (slice-vals area, (vint w16 start ∷ [], (vint w32 size ∷ [], tt)))))), tt)
+
+  held : Is T.the-row h (val h ∷ []) → Held
+  held is = slots-given (h .st) (slots-of h _ is)
+
+  goes : Held → ent 𝓤 (⋆ 𝓤 H A ((‵ (flft κ1 q1) ⊛ ‵ (flft κ2 q2) ⊛ ‵ ftrue) ∷ ‵ (ShrSlice (named 1) κ1 u16 .own fat (slice-vals fat)) ∷ ‵ (ShrSlice (named 2) κ2 u8 .own area (slice-vals area)) ∷ [])) (Callee 𝓤 H A at-mem run .pre to)
+  goes is = qed W ((‵ (flft κ1 q1) ⊛ ‵ (flft κ2 q2) ⊛ ‵ ftrue) ∷ ‵ (ShrSlice (named 1) κ1 u16 .own fat (slice-vals fat)) ∷ ‵ (ShrSlice (named 2) κ2 u8 .own area (slice-vals area)) ∷ []) ∵ nothing ! $ owned ! u32 (Is u32) (uint-makes 𝓤 H A W w32) size _ (refl, size-fits) $ fjoin ! $ owned ! u16 (Is u16) (uint-makes 𝓤 H A W w16) start _ (refl, start-fits) $ fjoin ! $ move ! (3 ∷ 0 ∷ []) $ fjoin ! $ move ! (2 ∷ 0 ∷ []) $ fjoin ! $ owned ! (Array Q.the-row 28) (Is (Array Q.the-row 28)) (array-makes 𝓤 H A W Q.the-row (slot-makes 𝓤 H A W) 28) (h .st) _ is $ fjoin ! $ move ! (1 ∷ 0 ∷ []) $ join ! $ nothing ! $ move ! (1 ∷ 0 ∷ []) $ done !
 
   module _ (C : Calls 𝓤 H) (Λ : Loops 𝓤 H) (fm : FmC 𝓤 H (W .laws) C) (known : Triple 𝓤 (C #g) (Callee 𝓤 H A at-mem run)) where
     module _ (l0 l1 l2 l3 l4 l5 l6 : ℕ) where
       abbrev En : Env 𝓤 H
-      En = (R′.mir, l0) ∷ (tyRef (named 0) imm (pointee (T.the-row .written)), l1) ∷ (sliceTy (tyRef (named 1) imm (tyInt w16)), l2) ∷ (sliceTy (tyRef (named 2) imm (tyInt w8)), l3) ∷ (tyInt w16, l4) ∷ (tyInt w32, l5) ∷ (T′.mir, l6) ∷ []
+      En = (tyBool, l0) ∷ (tyRef (named 0) imm (pointee (T.the-row .written)), l1) ∷ (sliceTy (tyRef (named 1) imm (tyInt w16)), l2) ∷ (sliceTy (tyRef (named 2) imm (tyInt w8)), l3) ∷ (tyInt w16, l4) ∷ (tyInt w32, l5) ∷ (tyArray Q′.mir 28, l6) ∷ []
 
-      starts : Sq W (‵ (froom (T′.mir) l6 0) ∷ ‵ (fdies (T′.mir) l6) ∷ ‵ (fcell fullShare (tyInt w32) l5 0 (vint w32 size)) ∷ ‵ (fdies (tyInt w32) l5) ∷ ‵ (fcell fullShare (tyInt w16) l4 0 (vint w16 start)) ∷ ‵ (fdies (tyInt w16) l4) ∷ ‵ (fcell fullShare (sliceTy (tyRef (named 2) imm (tyInt w8))) l3 0 (sliceVal (area .ptr) (length (area .now)))) ∷ ‵ (fdies (sliceTy (tyRef (named 2) imm (tyInt w8))) l3) ∷ ‵ (fcell fullShare (sliceTy (tyRef (named 1) imm (tyInt w16))) l2 0 (sliceVal (fat .ptr) (length (fat .now)))) ∷ ‵ (fdies (sliceTy (tyRef (named 1) imm (tyInt w16))) l2) ∷ ‵ (fcell fullShare (tyRef (named 0) imm (pointee (T.the-row .written))) l1 0 (vptr b o)) ∷ ‵ (fdies (tyRef (named 0) imm (pointee (T.the-row .written))) l1) ∷ ‵ (froom (R′.mir) l0 0) ∷ ‵ (fdies (R′.mir) l0) ∷ (‵ (flft κ0 q0) ⊛ ‵ (flft κ1 q1) ⊛ ‵ (flft κ2 q2) ⊛ ‵ ftrue) ∷ ‵ (owns (ShrRef (named 0) κ0 T.the-row ∷ ShrSlice (named 1) κ1 u16 ∷ ShrSlice (named 2) κ2 u8 ∷ u16 ∷ u32 ∷ []) x at) ∷ []) (runs C Λ En t-1 (atRet En Post))
+      starts : Sq W (‵ (froom (tyArray Q′.mir 28) l6 0) ∷ ‵ (fdies (tyArray Q′.mir 28) l6) ∷ ‵ (fcell fullShare (tyInt w32) l5 0 (vint w32 size)) ∷ ‵ (fdies (tyInt w32) l5) ∷ ‵ (fcell fullShare (tyInt w16) l4 0 (vint w16 start)) ∷ ‵ (fdies (tyInt w16) l4) ∷ ‵ (fcell fullShare (sliceTy (tyRef (named 2) imm (tyInt w8))) l3 0 (sliceVal (area .ptr) (length (area .now)))) ∷ ‵ (fdies (sliceTy (tyRef (named 2) imm (tyInt w8))) l3) ∷ ‵ (fcell fullShare (sliceTy (tyRef (named 1) imm (tyInt w16))) l2 0 (sliceVal (fat .ptr) (length (fat .now)))) ∷ ‵ (fdies (sliceTy (tyRef (named 1) imm (tyInt w16))) l2) ∷ ‵ (fcell fullShare (tyRef (named 0) imm (pointee (T.the-row .written))) l1 0 (vptr b o)) ∷ ‵ (fdies (tyRef (named 0) imm (pointee (T.the-row .written))) l1) ∷ ‵ (froom (tyBool) l0 0) ∷ ‵ (fdies (tyBool) l0) ∷ (‵ (flft κ0 q0) ⊛ ‵ (flft κ1 q1) ⊛ ‵ (flft κ2 q2) ⊛ ‵ ftrue) ∷ ‵ (owns (ShrRef (named 0) κ0 T.the-row ∷ ShrSlice (named 1) κ1 u16 ∷ ShrSlice (named 2) κ2 u8 ∷ u16 ∷ u32 ∷ []) x at) ∷ []) (runs C Λ En t-1 (atRet En Post))
       starts =
           move ! (15 ∷ []) $ fsplit ! $ fsplit3 ! $ drop ! $ move ! (17 ∷ []) $ split ! $ move ! (3 ∷ 0 ∷ []) $
           looked ! tt T.the-type T′.the-laws T′.the-copy h b o (λ q′ was.
-          assigns ! (of-opd ! (load ! (from ! (hop ! (look ! (7 + p 1) refl) (stop !))) (look-raw ! 0 refl))) (from ! (stop !)) (init ! (7 + p 6) refl (state-typed 𝓤 H A W h _ was)) $ shuts ! tt T.the-row q′ h (val h ∷ []) b o $
+          assigns ! (of-opd ! (load ! (from ! (hop ! (look ! (7 + p 1) refl) (fld ! st-at (stop !)))) (look-field ! 0 6 (tyArray Q′.mir 28) h refl refl))) (from ! (stop !)) (init ! (7 + p 6) refl (array-lawful 𝓤 H A W Q.the-row (LL.lawful Q.the-type Q′.the-laws 𝓤 H A W) 28 .typed (h .st) _ (held was) .0)) $ shuts ! tt T.the-row q′ h (val h ∷ []) b o $
           move ! (4 ∷ []) $ fsplit ! $ use1 W (‵ (ShrSlice (named 1) κ1 u16 .own fat (slice-vals fat)) ⊛ ‵ (ShrSlice (named 1) κ1 u16 .own fat (slice-vals fat))) (shr-slice-copy 𝓤 H A W (named 1) κ1 u16 .twice fat (slice-vals fat)) $ split ! $ move ! (2 ∷ []) $ fsplit ! $ use1 W (‵ (ShrSlice (named 2) κ2 u8 .own area (slice-vals area)) ⊛ ‵ (ShrSlice (named 2) κ2 u8 .own area (slice-vals area))) (shr-slice-copy 𝓤 H A W (named 2) κ2 u8 .twice area (slice-vals area)) $ split ! $ move ! (2 ∷ []) $ fsplit ! $ drop ! $ fsplit ! $ drop ! $ drop ! $ move ! (7 ∷ 5 ∷ 4 ∷ 3 ∷ 1 ∷ 6 ∷ 2 ∷ 0 ∷ []) $
           -- [res; bor; tok0; fat-kept; area-kept; toks; fat; area; the locals]
-          move ! (6 ∷ 7 ∷ []) $ join ! $ move ! (6 ∷ 0 ∷ []) $ join ! $ use1 W (raw (Callee 𝓤 H A at-mem run .pre to)) (goes was) $ calls-at ! fm (Callee 𝓤 H A at-mem run) known to (and-then ! (load ! (from ! (stop !)) (look ! (6 + p 6) refl)) (and-then ! (load ! (from ! (stop !)) (look ! (6 + p 2) refl)) (and-then ! (load ! (from ! (stop !)) (look ! (6 + p 3) refl)) (and-then ! (load ! (from ! (stop !)) (look ! (6 + p 4) refl)) (and-then ! (load ! (from ! (stop !)) (look ! (6 + p 5) refl)) (no-more !)))))) (λ v.
-          answered ! tt g.ended (g.clauses 𝓤 H A at-mem run) (κ1, (κ2, tt)) (q1, (q2, tt)) tt (h, (fat, (area, (start, (size, tt))))) (val h ∷ [], (slice-vals fat, (slice-vals area, (vint w16 start ∷ [], (vint w32 size ∷ [], tt))))) tt v (‵ (flft κ1 q1) ⊛ ‵ (flft κ2 q2) ⊛ ‵ ftrue) (id⊢ 𝓤 _) (λ r ws.
-          heard ! (Told r) (λ e. peeks ! R.the-row (Is R.the-row) (shows 𝓤 H A R.the-row) r (v ∷ []) (λ is. move ! (1 ∷ []) $
+          move ! (6 ∷ 7 ∷ []) $ join ! $ move ! (6 ∷ 0 ∷ []) $ join ! $ use1 W (raw (Callee 𝓤 H A at-mem run .pre to)) (goes (held was)) $ calls-at ! fm (Callee 𝓤 H A at-mem run) known to (and-then ! (load ! (from ! (stop !)) (look ! (6 + p 6) refl)) (and-then ! (load ! (from ! (stop !)) (look ! (6 + p 2) refl)) (and-then ! (load ! (from ! (stop !)) (look ! (6 + p 3) refl)) (and-then ! (load ! (from ! (stop !)) (look ! (6 + p 4) refl)) (and-then ! (load ! (from ! (stop !)) (look ! (6 + p 5) refl)) (no-more !)))))) (λ v.
+          answered ! tt g.ended (g.clauses 𝓤 H A at-mem run) (κ1, (κ2, tt)) (q1, (q2, tt)) tt (h .st, (fat, (area, (start, (size, tt))))) (slots-val (h .st) ∷ [], (slice-vals fat, (slice-vals area, (vint w16 start ∷ [], (vint w32 size ∷ [], tt))))) tt v (‵ (flft κ1 q1) ⊛ ‵ (flft κ2 q2) ⊛ ‵ ftrue) (id⊢ 𝓤 _) (λ r ws.
+          heard ! (Told r) (λ e. peeks ! bool (Is bool) (shows 𝓤 H A bool) r (v ∷ []) (λ is. move ! (1 ∷ []) $
           fsplit ! $ drop ! $ fsplit ! $ drop ! $ fsplit ! $ drop ! $ fsplit ! $ drop ! $ fsplit ! $ drop ! $ drop ! $ move ! (2 ∷ 3 ∷ 4 ∷ 1 ∷ 5 ∷ 6 ∷ 0 ∷ []) $
-          land ! (from ! (stop !)) (init ! (7 + p 0) refl (LL.lawful R.the-type R′.the-laws 𝓤 H A W .typed r _ is .0)) $ returns ! (look ! (7 + p 0) refl) $
+          land ! (from ! (stop !)) (init ! (7 + p 0) refl (bool-lawful 𝓤 H A W .typed r _ is .0)) $ returns ! (look ! (7 + p 0) refl) $
           gone ! (7 + p 0) refl refl $ gone ! (7 + p 1) refl refl $ gone ! (7 + p 2) refl refl $ gone ! (7 + p 3) refl refl $ gone ! (7 + p 4) refl refl $ gone ! (7 + p 5) refl refl $ gone ! (7 + p 6) refl refl $ free0 ! $
           by ! (exits r v e))))))
 
