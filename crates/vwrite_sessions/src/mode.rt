@@ -1,8 +1,4 @@
 // The mode.
-use sessions::mode::mode_reset;
-use sessions::mode::read_only;
-use sessions::mode::read_only_pending;
-use sessions::mode::set_read_only;
 use state::w::W;
 ghost use mathlib.Core.Path.{_≡_};
 ghost use Rattle.sessions.specs.Sessions.{readOnly, readOnlyPending};
@@ -13,8 +9,7 @@ ghost use Rattle.session_calls.specs.Calls.{AsksMode, SetsMode};
 pub extern "C" fn vwrite_set_read_only(w: &mut W, on: bool)
     ensures { λ _. ⌜ AsksMode on (now (w .entry)) (now (w .exit)) ⌝ }
 {
-    let s = set_read_only(*w, on);
-    *w = s;
+    w.want_rw = !on;
 }
 
 // The mode that was asked for is in force.
@@ -22,8 +17,7 @@ pub extern "C" fn vwrite_set_read_only(w: &mut W, on: bool)
 pub extern "C" fn vwrite_on_bus_reset(w: &mut W)
     ensures { λ _. ⌜ SetsMode (now (w .entry)) (now (w .exit)) ⌝ }
 {
-    let s = mode_reset(*w);
-    *w = s;
+    w.rw = w.want_rw;
 }
 
 // The mode in force.
@@ -31,7 +25,7 @@ pub extern "C" fn vwrite_on_bus_reset(w: &mut W)
 pub extern "C" fn vwrite_read_only(w: &W) -> bool
     ensures { λ r. ⌜ r ≡ readOnly (now (w .entry)) ⌝ }
 {
-    read_only(*w)
+    !w.rw
 }
 
 // The mode that is asked for.
@@ -39,5 +33,5 @@ pub extern "C" fn vwrite_read_only(w: &W) -> bool
 pub extern "C" fn vwrite_read_only_pending(w: &W) -> bool
     ensures { λ r. ⌜ r ≡ readOnlyPending (now (w .entry)) ⌝ }
 {
-    read_only_pending(*w)
+    !w.want_rw
 }

@@ -1,29 +1,28 @@
--- `vwrite_sessions::mode::vwrite_set_read_only` meets its contract: a walk of its MIR, by hand. The state is opened, taken as a value, and closed at what the covered function gives.
-use Rattle.files.proofs.Walk.{_≡_, refl, ℕ, _+_, _*_, _-_, [], _∷_, List, URA, fullShare, named, tyBool, Val, vptr, vunit, SProp, ent, id⊢, emp, via, fst∗, GName, Lft, Share, ftrue, fat as fcell, flft, fobs, fbor, Memory, Routine, Heap, Calls, Loops, WpFn, Tables, Atoms, Fun}
-use Rattle.files.proofs.Walk.{givenOf, tables, tablesOf, Given, ‵, raw, ⋆, _⊛_, _$_, _∵_, !, qed, by, move, drop, use1, split, join, rewrite, fsplit, fsplit3, fjoin, fjoin3, feqI, suffices, frame, done}
-use Rattle.files.proofs.Walk.{unit-lit, look, look-raw, store-raw, init, stop, hop, from, load, of-opd, and-then, no-more, assigns, land, returns, enter, params1, pass1, pass0, free0, Body, FmC, fmOf, WpFn-mono}
-use Rattle.files.proofs.Walk.{owns, Is, shows, mem, RefT, MutRef, ptr-vals, mut-tells, plain, owned, peeks, heard, nothing}
-use Rattle.files.proofs.Walk.{onEntry, Meets, tripleOf, Contract, Triple, calls-at, entered, cited, says, Stays, stay-ref, stay-none, walkOf, goes-ref, goes-none, ends-at, walked, walk-meets, yes}
-use mathlib.Core.Bool.{Bool}
+-- `vwrite_sessions::mode::vwrite_set_read_only` meets its contract: a walk of its MIR, by hand. The state is opened, and closed with the mode asked for stored.
+use Rattle.files.proofs.Walk.{_≡_, refl, ℕ, _+_, _*_, _-_, [], _∷_, List, URA, fullShare, named, Val, vptr, vunit, SProp, ent, emp, via, fst∗, GName, Lft, Share, ftrue, flft, fobs, fbor, Memory, Routine, Heap, Calls, Loops, WpFn, Tables, Atoms, Fun, fat as fcell}
+use Rattle.files.proofs.Walk.{givenOf, tables, tablesOf, Given, ‵, ⋆, _⊛_, _$_, _∵_, !, qed, by, move, drop, split, join, fsplit, fsplit3, fjoin, fjoin3, feqI, suffices, frame, done}
+use Rattle.files.proofs.Walk.{look, init, stop, hop, fld, from, load, of-opd, unit-lit, assigns, returns, enter, params1, pass1, pass0, free0, Body, WpFn-mono}
+use Rattle.files.proofs.Walk.{owns, Is, mem, RefT, MutRef, ptr-vals, mut-tells, plain, owned, nothing}
+use Rattle.files.proofs.Walk.{onEntry, Meets, tripleOf, tyBool, entered, says, Stays, stay-ref, stay-none, walkOf, goes-none, goes-ref, ends-at, walked, walk-meets, yes}
+use mathlib.Core.Bool.{Bool, not}
 use mir.Syntax.{mut, tyRef, tyUnit}
 use mir.Val.{vbool}
 use base.Fml.{froom, fdies}
 use prog.Wp.{Env}
 use types.Kit.{runs, atRet, Sq}
+use types.Run.{un}
 use denote.Builtin.{bool}
 use denote.Memory.{pointee}
 use denote.Plain.{bool-vals, bool-tells, bool-makes}
-use Rattle.files.proofs.Outer.{opened, closed, answered, gone}
+use Rattle.files.proofs.Outer.{opened, closed, gone}
 use Rattle.files.proofs.Locals.{alloc-all}
-use Rattle.outer_columns.proofs.Session.{val, state-typed, state-is, state-holds, state-makes}
+use Rattle.outer_columns.proofs.Fields.{store-field}
+use Rattle.vwrite_sessions.proofs.ModeFields.{want-at, want-stored, want-holds, asked}
+use Rattle.state.specs.Setters.{withWantRw}
 use Rattle.sessions.specs.Sessions.{setReadOnly}
 use Rattle.state.specs.declared.w.W.{W as Ses}
 use Rattle.state.proofs.w.W as T
 use Rattle.state.proofs.w.W.Laws as T′
-use Rattle.sessions.proofs.mode.set_read_only as g
-use Rattle.sessions.proofs.mode.set_read_only.Symbol as g-def
-use Rattle.sessions.proofs.mode.set_read_only.Symbol.{name as #g}
-use Rattle.sessions.proofs.mode.set_read_only.Met as g-thm
 use Rattle.vwrite_sessions.proofs.mode.vwrite_set_read_only.Key.{name as #f}
 use Rattle.vwrite_sessions.proofs.mode.vwrite_set_read_only as f
 use Rattle.vwrite_sessions.proofs.mode.vwrite_set_read_only.Statement as stated
@@ -33,12 +32,9 @@ use Rattle.vwrite_sessions.proofs.mode.vwrite_set_read_only.Code.Mir.{t
 abbrev stayed : Stays (f.ended .signature .params) (f.ended .kept)
 stayed = (stay-ref (0 ∷ []) tt (plain (λ _. T.the-row)), (stay-none (λ _. bool) yes, tt))
 
-abbrev Callee : {M : Type 1} (𝓤 : URA M) (H : Heap 𝓤) (A : Atoms 𝓤) (mem : Memory → SProp 𝓤) (run : Routine → Fun 𝓤) → Contract 𝓤
-Callee 𝓤 H A mem run = tripleOf 𝓤 H A g.signature (g.spec 𝓤 H A mem run)
-
 -- the place of local i, behind the items in front
 abbrev p : ℕ → ℕ
-p i = 2 * (4 - i)
+p i = 2 * (3 - i)
 
 module _ {M : Type 1} (𝓤 : URA M) (H : Heap 𝓤) (A : Atoms 𝓤) (W : Given 𝓤 H A) (at-mem : Memory → SProp 𝓤) (run : Routine → Fun 𝓤) (κ0 : Lft) (q0 : Share) (b o : ℕ) (γ : GName) (h : Ses) (on : Bool) where
   abbrev Arg : Type 0
@@ -60,47 +56,37 @@ module _ {M : Type 1} (𝓤 : URA M) (H : Heap 𝓤) (A : Atoms 𝓤) (W : Given
       nothing ! $ move ! (3 ∷ 0 ∷ []) $ join ! $ frame ! $ feqI ! (List Val) (vptr b o ∷ []) (vptr b o ∷ []) refl $ fjoin3 ! $ nothing ! $
       owned ! bool (Is bool) (bool-makes 𝓤 H A W) on _ refl $ fjoin ! $ move ! (1 ∷ 0 ∷ []) $ fjoin ! $ feqI ! (List Val) (vunit ∷ []) (vunit ∷ []) refl $ move ! (1 ∷ 0 ∷ []) $ done !
 
-  abbrev to : Callee 𝓤 H A at-mem run .Ghost
-  to = ((tt, tt, tt, (h, (on, tt)), (val h ∷ [], (vbool on ∷ [], tt))), tt)
+  module _ (C : Calls 𝓤 H) (Λ : Loops 𝓤 H) (l0 l1 l2 l3 : ℕ) where
+    abbrev En : Env 𝓤 H
+    En = (tyUnit, l0) ∷ (tyRef (named 0) mut (pointee (T.the-row .written)), l1) ∷ (tyBool, l2) ∷ (tyBool, l3) ∷ []
 
-  goes : Is T.the-row h (val h ∷ []) → ent 𝓤 (⋆ 𝓤 H A (‵ ftrue ∷ [])) (Callee 𝓤 H A at-mem run .pre to)
-  goes is = qed W (‵ ftrue ∷ []) ∵ nothing ! $ owned ! bool (Is bool) (bool-makes 𝓤 H A W) on _ refl $ fjoin ! $ owned ! T.the-row (Is T.the-row) (state-makes 𝓤 H A W) h _ is $ fjoin ! $ move ! (1 ∷ 0 ∷ []) $ join ! $ nothing ! $ move ! (1 ∷ 0 ∷ []) $ done !
+    starts : Sq W (‵ (froom (tyBool) l3 0) ∷ ‵ (fdies (tyBool) l3) ∷ ‵ (fcell fullShare (tyBool) l2 0 (vbool on)) ∷ ‵ (fdies (tyBool) l2) ∷ ‵ (fcell fullShare (tyRef (named 0) mut (pointee (T.the-row .written))) l1 0 (vptr b o)) ∷ ‵ (fdies (tyRef (named 0) mut (pointee (T.the-row .written))) l1) ∷ ‵ (froom (tyUnit) l0 0) ∷ ‵ (fdies (tyUnit) l0) ∷ (‵ (flft κ0 q0) ⊛ ‵ ftrue) ∷ ‵ (owns (MutRef (named 0) κ0 T.the-row ∷ bool ∷ []) x at) ∷ []) (runs C Λ En t-1 (atRet En Post))
+    starts =
+        move ! (9 ∷ []) $ fsplit ! $ fsplit3 ! $ drop ! $ move ! (11 ∷ []) $ split ! $ move ! (2 ∷ 3 ∷ 0 ∷ []) $
+        opened ! tt T.the-type T′.the-laws h b o (λ was. move ! (4 ∷ 5 ∷ []) $ drop ! $ drop ! $
+        -- [cell; obor; obs; auth; the locals]
+        assigns ! (un ! (load ! (from ! (stop !)) (look ! (4 + p 2) refl)) tt) (from ! (stop !)) (init ! (4 + p 3) refl (tt, tt)) $
+        assigns ! (of-opd ! (load ! (from ! (stop !)) (look ! (4 + p 3) refl))) (from ! (hop ! (look ! (4 + p 1) refl) (fld ! want-at (stop !)))) (store-field ! 0 1 tyBool h (withWantRw h (not on)) refl (want-stored h (not on)) refl (tt, tt)) $
+        assigns ! (of-opd ! (unit-lit !)) (from ! (stop !)) (init ! (4 + p 0) refl (tt, tt)) $
+        closed ! tt T.the-type T′.the-laws T′.the-plain (withWantRw h (not on)) (want-holds h _ (not on) was) b o $ returns ! (look ! (3 + p 0) refl) $ gone ! (3 + p 0) refl refl $ gone ! (3 + p 1) refl refl $ gone ! (3 + p 2) refl refl $ gone ! (3 + p 3) refl refl $ free0 ! $
+        by ! (exits (withWantRw h (not on)) (asked h on)))
 
-  module _ (C : Calls 𝓤 H) (Λ : Loops 𝓤 H) (fm : FmC 𝓤 H (W .laws) C) (known : Triple 𝓤 (C #g) (Callee 𝓤 H A at-mem run)) where
-    module _ (l0 l1 l2 l3 l4 : ℕ) where
-      abbrev En : Env 𝓤 H
-      En = (tyUnit, l0) ∷ (tyRef (named 0) mut (pointee (T.the-row .written)), l1) ∷ (tyBool, l2) ∷ (T′.mir, l3) ∷ (T′.mir, l4) ∷ []
+  walk : (C : Calls 𝓤 H) (Λ : Loops 𝓤 H) → ent 𝓤 (onEntry 𝓤 H A f.signature (κ0, tt) (q0, tt) x at) (WpFn 𝓤 H C Λ code.function (vptr b o ∷ vbool on ∷ []) Post)
+  walk C Λ =
+      qed W ((‵ (flft κ0 q0) ⊛ ‵ ftrue) ∷ ‵ (owns (MutRef (named 0) κ0 T.the-row ∷ bool ∷ []) x at) ∷ []) ∵
+      enter ! C Λ code.function (vptr b o ∷ vbool on ∷ []) _ $
+      alloc-all ! (code.function .locals) (λ bs. params1 ! $ pass1 ! (init ! (p 1) refl (tt, tt)) $ pass1 ! (init ! (p 2) refl (tt, tt)) $ pass0 ! $
+      by ! (starts C Λ (bs .0) (bs .1 .0) (bs .1 .1 .0) (bs .1 .1 .1 .0) .prf))
 
-      starts : Sq W (‵ (froom (T′.mir) l4 0) ∷ ‵ (fdies (T′.mir) l4) ∷ ‵ (froom (T′.mir) l3 0) ∷ ‵ (fdies (T′.mir) l3) ∷ ‵ (fcell fullShare (tyBool) l2 0 (vbool on)) ∷ ‵ (fdies (tyBool) l2) ∷ ‵ (fcell fullShare (tyRef (named 0) mut (pointee (T.the-row .written))) l1 0 (vptr b o)) ∷ ‵ (fdies (tyRef (named 0) mut (pointee (T.the-row .written))) l1) ∷ ‵ (froom (tyUnit) l0 0) ∷ ‵ (fdies (tyUnit) l0) ∷ (‵ (flft κ0 q0) ⊛ ‵ ftrue) ∷ ‵ (owns (MutRef (named 0) κ0 T.the-row ∷ bool ∷ []) x at) ∷ []) (runs C Λ En t-1 (atRet En Post))
-      starts =
-          move ! (11 ∷ []) $ fsplit ! $ fsplit3 ! $ drop ! $ move ! (13 ∷ []) $ split ! $ move ! (2 ∷ 3 ∷ 0 ∷ []) $
-          opened ! tt T.the-type T′.the-laws h b o (λ was. move ! (5 ∷ []) $ drop ! $ assigns ! (of-opd ! (load ! (from ! (hop ! (look ! (5 + p 1) refl) (stop !))) (look-raw ! 0 refl))) (from ! (stop !)) (init ! (5 + p 4) refl (state-typed 𝓤 H A W h _ was)) $ move ! (4 ∷ []) $ use1 W (raw (Callee 𝓤 H A at-mem run .pre to)) (goes was) $ calls-at ! fm (Callee 𝓤 H A at-mem run) known to (and-then ! (load ! (from ! (stop !)) (look ! (5 + p 4) refl)) (and-then ! (load ! (from ! (stop !)) (look ! (5 + p 2) refl)) (no-more !))) (λ v.
-          answered ! tt g.ended (g.clauses 𝓤 H A at-mem run) tt tt tt (h, (on, tt)) (val h ∷ [], (vbool on ∷ [], tt)) tt v (‵ ftrue) (id⊢ 𝓤 _) (λ r ws.
-          heard ! (r ≡ setReadOnly h on) (λ e. peeks ! T.the-row (Is T.the-row) (shows 𝓤 H A T.the-row) r (v ∷ []) (λ is. drop ! $ fsplit ! $ drop ! $ fsplit ! $ drop ! $ drop ! $ drop ! $
-          land ! (from ! (stop !)) (init ! (4 + p 3) refl (state-typed 𝓤 H A W r v is)) $ rewrite ! (4 + p 3) (λ (u : Val). ‵ (fcell fullShare T′.mir l3 0 u)) (state-is r v is) refl $
-          assigns ! (of-opd ! (load ! (from ! (stop !)) (look ! (4 + p 3) refl))) (from ! (hop ! (look ! (4 + p 1) refl) (stop !))) (store-raw ! 0 refl (state-typed 𝓤 H A W r _ (state-holds r v is))) $
-          assigns ! (of-opd ! (unit-lit !)) (from ! (stop !)) (init ! (4 + p 0) refl (tt, tt)) $
-          closed ! tt T.the-type T′.the-laws T′.the-plain r (state-holds r v is) b o $ returns ! (look ! (3 + p 0) refl) $ gone ! (3 + p 0) refl refl $ gone ! (3 + p 1) refl refl $ gone ! (3 + p 2) refl refl $ gone ! (3 + p 3) refl refl $ gone ! (3 + p 4) refl refl $ free0 ! $
-          by ! (exits r e))))))
-
-    walk : ent 𝓤 (onEntry 𝓤 H A f.signature (κ0, tt) (q0, tt) x at) (WpFn 𝓤 H C Λ code.function (vptr b o ∷ vbool on ∷ []) Post)
-    walk =
-        qed W ((‵ (flft κ0 q0) ⊛ ‵ ftrue) ∷ ‵ (owns (MutRef (named 0) κ0 T.the-row ∷ bool ∷ []) x at) ∷ []) ∵
-        enter ! C Λ code.function (vptr b o ∷ vbool on ∷ []) _ $
-        alloc-all ! (code.function .locals) (λ bs. params1 ! $ pass1 ! (init ! (p 1) refl (tt, tt)) $ pass1 ! (init ! (p 2) refl (tt, tt)) $ pass0 ! $
-        by ! (starts (bs .0) (bs .1 .0) (bs .1 .1 .0) (bs .1 .1 .1 .0) (bs .1 .1 .1 .1 .0) .prf))
-
-meets : {M : Type 1} (𝓤 : URA M) (H : Heap 𝓤) (A : Atoms 𝓤) (W : Given 𝓤 H A) (at-mem : Memory → SProp 𝓤) (run : Routine → Fun 𝓤) (𝓣 : Tables 𝓤 H) → Triple 𝓤 (𝓣 .C #g) (Callee 𝓤 H A at-mem run)
-    → Meets 𝓤 H A f.signature (WpFn 𝓤 H (𝓣 .C) (𝓣 .Λ) code.function) (f.spec 𝓤 H A at-mem run)
-meets 𝓤 H A W at-mem run 𝓣 known =
+meets : {M : Type 1} (𝓤 : URA M) (H : Heap 𝓤) (A : Atoms 𝓤) (W : Given 𝓤 H A) (at-mem : Memory → SProp 𝓤) (run : Routine → Fun 𝓤) (𝓣 : Tables 𝓤 H) → Meets 𝓤 H A f.signature (WpFn 𝓤 H (𝓣 .C) (𝓣 .Λ) code.function) (f.spec 𝓤 H A at-mem run)
+meets 𝓤 H A W at-mem run 𝓣 =
     walk-meets 𝓤 H A f.ended stayed W (goes-ref 𝓤 H A W 1 0 tt (plain (λ _. T.the-row)), (goes-none 𝓤 H A W 1 (λ _. bool) yes (λ κs x f. refl), tt))
     (f.clauses 𝓤 H A at-mem run) (WpFn 𝓤 H (𝓣 .C) (𝓣 .Λ) code.function) (WpFn-mono 𝓤 H (W .laws) 𝓣 code.function)
     (walked 𝓤 H A f.ended stayed (f.clauses 𝓤 H A at-mem run) (WpFn 𝓤 H (𝓣 .C) (𝓣 .Λ) code.function) (λ κs. (ptr-vals, (bool-vals, tt))) (λ κs. (mut-tells (named 0) (κs .0) T.the-row, (bool-tells, tt)))
-    (λ κs qs bounds a _ are. via 𝓤 _ (fst∗ 𝓤 _ (emp 𝓤)) (walk 𝓤 H A W at-mem run (κs .0) (qs .0) (a .0 .ptr .0) (a .0 .ptr .1) (a .0 .name) (a .0 .now) (a .1 .0) (𝓣 .C) (𝓣 .Λ) (fmOf 𝓤 H (W .laws) 𝓣) known)))
+    (λ κs qs bounds a _ are. via 𝓤 _ (fst∗ 𝓤 _ (emp 𝓤)) (walk 𝓤 H A W at-mem run (κs .0) (qs .0) (a .0 .ptr .0) (a .0 .ptr .1) (a .0 .name) (a .0 .now) (a .1 .0) (𝓣 .C) (𝓣 .Λ))))
 
 pub vwrite-set-read-only-spec : {M : Type 1} → stated.statement M
 unfolding code.routine tablesOf
 vwrite-set-read-only-spec 𝓤 H 𝓜 𝓖 𝓡 =
     entered 𝓤 H (tripleOf 𝓤 H (𝓖 .A) f.signature (f.spec 𝓤 H (𝓖 .A) (𝓜 .mem) (𝓡 .run))) (tables 𝓤 H 𝓜 𝓡 code.env .C) (tables 𝓤 H 𝓜 𝓡 code.env .Λ) #f code.function (code.unfolded 𝓤 H 𝓜 𝓡)
-    (meets 𝓤 H (𝓖 .A) (givenOf 𝓤 H 𝓜 𝓖) (𝓜 .mem) (𝓡 .run) (tablesOf 𝓤 H 𝓜 (tables 𝓤 H 𝓜 𝓡 code.env))
-    (cited 𝓤 H (Callee 𝓤 H (𝓖 .A) (𝓜 .mem) (𝓡 .run)) 𝓜 𝓡 code.env #g g-def.routine code.calls-sessions·mode·set-read-only (g-thm.met 𝓤 H 𝓜 𝓖 𝓡)))
+    (meets 𝓤 H (𝓖 .A) (givenOf 𝓤 H 𝓜 𝓖) (𝓜 .mem) (𝓡 .run) (tablesOf 𝓤 H 𝓜 (tables 𝓤 H 𝓜 𝓡 code.env)))
