@@ -1,17 +1,16 @@
-// The calls that only read, of the state and the table's columns by value. An enum's answer is told as a struct, which C can take.
-use body::BodyCheck;
-use chains::Chain;
+// The calls that only read, of the state's arrays and the table's columns by value. What an exported call answers beside its
+// number goes through references, since a returned struct passes differently on 32-bit machines.
 use file_table::MAX_VF;
 use files::Columns;
-use medium::reads::StagedRead;
 use medium::reads::moved_ref;
-use records::RootRec;
-use root_slots::Strict;
+use records::NREC;
+use records::Rec;
 use state::pairs::PairOf;
 use state::pairs::pair_of;
+use state::w::NPAIR;
 use state::w::NST;
+use state::w::Pair;
 use state::w::St;
-use state::w::W;
 use vdisk::drive::DirKind;
 use vdisk::owner::Own;
 use vdisk::owner::rising;
@@ -26,88 +25,118 @@ ghost use Rattle.root_slots.specs.RootSlots.{strictOf};
 ghost use Rattle.state_calls.specs.Answers.{pairAnswer, dirAnswer, ownAnswer, columnsOwner};
 
 // The host's FAT entry of a cluster: is there one, and its value, 0 where there is none.
-#[repr(C)]
 pub struct PairAnswer {
     pub found: bool,
     pub v: u16,
 }
 
 // The directory that a cluster is: is it one, and its file kind, 0 where it is none.
-#[repr(C)]
 pub struct DirAnswer {
     pub found: bool,
     pub kind: u16,
 }
 
-// Who owns a cluster: the refusal number, 0 where there is none; then 0 Reserved, 1 Fixed, 2 a file, 3 Free; and the file's row, 0 where
-// it is no file's.
-#[repr(C)]
+// Who owns a cluster: the refusal number, 0 where there is none; then as in OwnRow.
 pub struct OwnAnswer {
     pub no: u8,
     pub owner: u8,
     pub row: usize,
 }
 
-pub fn staged_read(w: W, fat: &[u16], area: &[u8], c: u32, s: u32, out: &mut [u8]) -> StagedRead
-    ensures { λ r. ⌜ (r ≡ stagedAnswer (w .st) c s (now (out .entry))) × (now (out .exit) ≡ stagedBytes (now (fat .entry)) (now (area .entry)) (w .st) c s (now (out .entry))) ⌝ }
-{
-    let st = w.st;
-    medium::reads::staged_read(st, fat, area, c, s, out)
+// The owner of a cluster, 0 Reserved, 1 Fixed, 2 a file, 3 Free; and the file's row, 0 where it is no file's.
+#[repr(C)]
+pub struct OwnRow {
+    pub owner: u8,
+    pub row: usize,
 }
 
-pub fn pair(w: W, c: u32) -> PairAnswer
-    ensures { λ r. ⌜ r ≡ pairAnswer (pairOf (w .pair) c) ⌝ }
+pub fn staged_read(
+    st: [St; NST],
+    fat: &[u16],
+    area: &[u8],
+    c: u32,
+    s: u32,
+    out: &mut [u8],
+    staged: &mut bool,
+) -> u8
+    ensures { λ r. ⌜ (record { no = r; staged = now (staged .exit) } ≡ stagedAnswer st c s (now (out .entry)))
+        × (now (out .exit) ≡ stagedBytes (now (fat .entry)) (now (area .entry)) st c s (now (out .entry))) ⌝ }
 {
-    let pairs = w.pair;
-    let PairOf::Value(v) = pair_of(pairs, c) else {
-        return PairAnswer { found: false, v: 0 };
+    let a = medium::reads::staged_read(st, fat, area, c, s, out);
+    *staged = a.staged;
+    a.no
+}
+
+pub fn pair(pairs: [Pair; NPAIR], c: u32, v: &mut u16) -> bool
+    ensures { λ r. ⌜ record { found = r; v = now (v .exit) } ≡ pairAnswer (pairOf pairs c) ⌝ }
+{
+    let PairOf::Value(x) = pair_of(pairs, c) else {
+        *v = 0;
+        return false;
     };
-    PairAnswer { found: true, v: v }
+    *v = x;
+    true
 }
 
-pub fn root_rec(w: W, slot: usize) -> RootRec
-    ensures { λ r. ⌜ r ≡ rootRec (w .rec) slot ⌝ }
+pub fn root_rec(rec: [Rec; NREC], slot: usize, e: &mut [u8; 32]) -> bool
+    ensures { λ r. ⌜ record { found = r; e = now (e .exit) } ≡ rootRec rec slot ⌝ }
 {
-    let rec = w.rec;
-    records::root_rec(rec, slot)
+    let a = records::root_rec(rec, slot);
+    let bytes = a.e;
+    *e = bytes;
+    a.found
 }
 
-pub fn complete(w: W, start: u32, size: u32) -> Chain
-    ensures { λ r. ⌜ r ≡ completeOf (w .pair) (w .st) start size ⌝ }
+pub fn complete(
+    pairs: [Pair; NPAIR],
+    st: [St; NST],
+    start: u32,
+    size: u32,
+    slots: &mut [u8; NST],
+    n: &mut usize,
+) -> bool
+    ensures { λ r. ⌜ record { found = r; slots = now (slots .exit); n = now (n .exit) } ≡ completeOf pairs st start size ⌝ }
 {
-    let pairs = w.pair;
-    let st = w.st;
-    chains::complete(pairs, st, start, size)
+    let a = chains::complete(pairs, st, start, size);
+    let walked = a.slots;
+    *slots = walked;
+    *n = a.n;
+    a.found
 }
 
-pub fn body_check(w: W, fat: &[u16], area: &[u8], start: u32, size: u32) -> BodyCheck
-    ensures { λ r. ⌜ r ≡ bodyOf (now (fat .entry)) (now (area .entry)) (w .pair) (w .st) start size ⌝ }
+pub fn body_check(
+    pairs: [Pair; NPAIR],
+    st: [St; NST],
+    fat: &[u16],
+    area: &[u8],
+    start: u32,
+    size: u32,
+    valid: &mut bool,
+) -> u8
+    ensures { λ r. ⌜ record { no = r; valid = now (valid .exit) } ≡ bodyOf (now (fat .entry)) (now (area .entry)) pairs st start size ⌝ }
 {
-    let pairs = w.pair;
-    let st = w.st;
-    body::body(fat, area, pairs, st, start, size)
+    let a = body::body(fat, area, pairs, st, start, size);
+    *valid = a.valid;
+    a.no
 }
 
-pub fn strict_name(w: W, d: &[u8], slot: usize) -> Strict
-    ensures { λ r. ⌜ r ≡ strictOf (w .rec) (now (d .entry)) slot ⌝ }
+pub fn strict_name(rec: [Rec; NREC], sector: &[u8], slot: usize, housekeeping: &mut bool) -> u8
+    ensures { λ r. ⌜ record { no = r; housekeeping = now (housekeeping .exit) } ≡ strictOf rec (now (sector .entry)) slot ⌝ }
 {
-    let rec = w.rec;
-    root_slots::strict_name(rec, d, slot)
+    let a = root_slots::strict_name(rec, sector, slot);
+    *housekeeping = a.housekeeping;
+    a.no
 }
 
-pub fn dir_kind(c: u32) -> DirAnswer
-    ensures { λ r. ⌜ r ≡ dirAnswer (dirKindOf c) ⌝ }
+pub fn dir_kind(c: u32, kind: &mut u16) -> bool
+    ensures { λ r. ⌜ record { found = r; kind = now (kind .exit) } ≡ dirAnswer (dirKindOf c) ⌝ }
 {
-    let DirKind::Kind(kind) = vdisk::drive::dir_kind(c) else {
-        return DirAnswer {
-            found: false,
-            kind: 0,
-        };
+    let DirKind::Kind(k) = vdisk::drive::dir_kind(c) else {
+        *kind = 0;
+        return false;
     };
-    DirAnswer {
-        found: true,
-        kind: kind,
-    }
+    *kind = k;
+    true
 }
 
 fn own_answer(o: Own) -> OwnAnswer

@@ -1,21 +1,16 @@
 // The calls that a firmware links. Each takes the state or the table that it is lent apart for a proved function over values,
-// and stores what that gives back.
-use body::BodyCheck;
-use chains::Chain;
+// and stores what that gives back. Each answers a number and writes the rest through references, since a returned struct passes
+// differently on 32-bit machines.
 use crc::crc16_upd;
 use file_table::VF;
 use files::load;
-use medium::reads::StagedRead;
 use outer_write::judged::judged;
-use records::RootRec;
-use root_slots::Strict;
 use state::queries::boot_state;
 use state::queries::fat1;
 use state::queries::frozen;
+use state::w::NST;
 use state::w::W;
-use state_calls::DirAnswer;
-use state_calls::OwnAnswer;
-use state_calls::PairAnswer;
+use state_calls::OwnRow;
 use state_calls::body_check;
 use state_calls::complete;
 use state_calls::dir_kind;
@@ -66,7 +61,7 @@ pub extern "C" fn vwrite_write(
     judged(w, files, lba, shown, written, busy, fat, area)
 }
 
-// A sector of a staged cluster into `out`, zeros where the host wrote none.
+// A sector of a staged cluster into `out`, zeros where the host wrote none: the refusal number, and whether the cluster is staged.
 #[no_mangle]
 pub extern "C" fn vwrite_staged_read(
     w: &W,
@@ -75,27 +70,28 @@ pub extern "C" fn vwrite_staged_read(
     c: u32,
     s: u32,
     out: &mut [u8],
-) -> StagedRead
-    ensures { λ r. ⌜ (r ≡ stagedAnswer (now (w .entry) .st) c s (now (out .entry)))
+    staged: &mut bool,
+) -> u8
+    ensures { λ r. ⌜ (record { no = r; staged = now (staged .exit) } ≡ stagedAnswer (now (w .entry) .st) c s (now (out .entry)))
         × (now (out .exit) ≡ stagedBytes (now (fat .entry)) (now (area .entry)) (now (w .entry) .st) c s (now (out .entry))) ⌝ }
 {
-    staged_read(*w, fat, area, c, s, out)
+    staged_read(w.st, fat, area, c, s, out, staged)
 }
 
-// The host's FAT entry of a cluster.
+// The host's FAT entry of a cluster: is there one, and its value.
 #[no_mangle]
-pub extern "C" fn vwrite_pair(w: &W, c: u32) -> PairAnswer
-    ensures { λ r. ⌜ r ≡ pairAnswer (pairOf (now (w .entry) .pair) c) ⌝ }
+pub extern "C" fn vwrite_pair(w: &W, c: u32, v: &mut u16) -> bool
+    ensures { λ r. ⌜ record { found = r; v = now (v .exit) } ≡ pairAnswer (pairOf (now (w .entry) .pair) c) ⌝ }
 {
-    pair(*w, c)
+    pair(w.pair, c, v)
 }
 
-// The host's record in a root slot.
+// The host's record in a root slot: is there one, and its bytes.
 #[no_mangle]
-pub extern "C" fn vwrite_root_rec(w: &W, slot: usize) -> RootRec
-    ensures { λ r. ⌜ r ≡ rootRec (now (w .entry) .rec) slot ⌝ }
+pub extern "C" fn vwrite_root_rec(w: &W, slot: usize, e: &mut [u8; 32]) -> bool
+    ensures { λ r. ⌜ record { found = r; e = now (e .exit) } ≡ rootRec (now (w .entry) .rec) slot ⌝ }
 {
-    root_rec(*w, slot)
+    root_rec(w.rec, slot, e)
 }
 
 // The boot byte as the host wrote it.
@@ -122,15 +118,22 @@ pub extern "C" fn vwrite_frozen(w: &W, mounted: bool) -> bool
     frozen(*w, mounted)
 }
 
-// The chain of a file by its start and size.
+// The chain of a file by its start and size: is it whole, the slots of its clusters and how many they are.
 #[no_mangle]
-pub extern "C" fn vwrite_complete(w: &W, start: u32, size: u32) -> Chain
-    ensures { λ r. ⌜ r ≡ completeOf (now (w .entry) .pair) (now (w .entry) .st) start size ⌝ }
+pub extern "C" fn vwrite_complete(
+    w: &W,
+    start: u32,
+    size: u32,
+    slots: &mut [u8; NST],
+    n: &mut usize,
+) -> bool
+    ensures { λ r. ⌜ record { found = r; slots = now (slots .exit); n = now (n .exit) }
+        ≡ completeOf (now (w .entry) .pair) (now (w .entry) .st) start size ⌝ }
 {
-    complete(*w, start, size)
+    complete(w.pair, w.st, start, size, slots, n)
 }
 
-// The body of the update file with that start and size.
+// The body of the update file with that start and size: the refusal number, and whether it is valid.
 #[no_mangle]
 pub extern "C" fn vwrite_body_check(
     w: &W,
@@ -138,10 +141,12 @@ pub extern "C" fn vwrite_body_check(
     area: &[u8],
     start: u32,
     size: u32,
-) -> BodyCheck
-    ensures { λ r. ⌜ r ≡ bodyOf (now (fat .entry)) (now (area .entry)) (now (w .entry) .pair) (now (w .entry) .st) start size ⌝ }
+    valid: &mut bool,
+) -> u8
+    ensures { λ r. ⌜ record { no = r; valid = now (valid .exit) }
+        ≡ bodyOf (now (fat .entry)) (now (area .entry)) (now (w .entry) .pair) (now (w .entry) .st) start size ⌝ }
 {
-    body_check(*w, fat, area, start, size)
+    body_check(w.pair, w.st, fat, area, start, size, valid)
 }
 
 // The update file's CRC of more bytes, after `c`.
@@ -152,29 +157,39 @@ pub extern "C" fn vwrite_crc16(c: u16, bytes: &[u8]) -> u16
     crc16_upd(c, bytes)
 }
 
-// Is the strict long name of a root slot, given its sector, housekeeping.
+// Is the strict long name of a root slot, given its sector, housekeeping: the refusal number, and whether it is.
 #[no_mangle]
-pub extern "C" fn vwrite_strict_name(w: &W, d: &[u8], slot: usize) -> Strict
-    ensures { λ r. ⌜ r ≡ strictOf (now (w .entry) .rec) (now (d .entry)) slot ⌝ }
+pub extern "C" fn vwrite_strict_name(
+    w: &W,
+    sector: &[u8],
+    slot: usize,
+    housekeeping: &mut bool,
+) -> u8
+    ensures { λ r. ⌜ record { no = r; housekeeping = now (housekeeping .exit) }
+        ≡ strictOf (now (w .entry) .rec) (now (sector .entry)) slot ⌝ }
 {
-    strict_name(*w, d, slot)
+    strict_name(w.rec, sector, slot, housekeeping)
 }
 
-// The owner of a cluster; `first` is the first session cluster.
+// The owner of a cluster: the refusal number, and who it is; `first` is the first session cluster.
 #[no_mangle]
-pub extern "C" fn vwrite_owner(files: &[VF], first: u32, c: u32) -> OwnAnswer
-    ensures { λ r. ⌜ r ≡ filesOwner (now (files .entry)) first c ⌝ }
+pub extern "C" fn vwrite_owner(files: &[VF], first: u32, c: u32, own: &mut OwnRow) -> u8
+    ensures { λ r. ⌜ record { no = r; owner = now (own .exit) .owner; row = now (own .exit) .row }
+        ≡ filesOwner (now (files .entry)) first c ⌝ }
 {
     let t = load(files);
-    owner(t, first, c)
+    let o = owner(t, first, c);
+    own.owner = o.owner;
+    own.row = o.row;
+    o.no
 }
 
-// The directory that a cluster is.
+// The directory that a cluster is: is it one, and its file kind.
 #[no_mangle]
-pub extern "C" fn vwrite_dir_kind(c: u32) -> DirAnswer
-    ensures { λ r. ⌜ r ≡ dirAnswer (dirKindOf c) ⌝ }
+pub extern "C" fn vwrite_dir_kind(c: u32, kind: &mut u16) -> bool
+    ensures { λ r. ⌜ record { found = r; kind = now (kind .exit) } ≡ dirAnswer (dirKindOf c) ⌝ }
 {
-    dir_kind(c)
+    dir_kind(c, kind)
 }
 
 // Clusters of a file of so many bytes.

@@ -7,8 +7,8 @@ use Rattle.state_calls.proofs.dir_kind.Tie as tie
 dir-kind-requires : tie.Need-dir-kind-requires
 dir-kind-requires c κs = search needs
 
-enum-known-kind : tie.Need-enum-known-kind
-enum-known-kind c = search needs
+enum-known-k : tie.Need-enum-known-k
+enum-known-k c = search needs
 
 enum-told : tie.Need-enum-told
 enum-told c = search needs
@@ -19,7 +19,7 @@ returns c = ap dirAnswer (sym (c .enum-told .given .1) ∙ c .before .before .di
 
 returns-2 : tie.Need-returns-2
 unfolding dirAnswer
-returns-2 c = ap dirAnswer (sym (c .before .kind .given .1) ∙ c .before .before .before .dir-kind .ensures)
+returns-2 c = ap dirAnswer (sym (c .before .k .given .1) ∙ c .before .before .before .dir-kind .ensures)
 
 pub dir-kind-spec : {M : Type 1} → statement M
-dir-kind-spec = tie.close (tie.spec dir-kind-requires enum-known-kind enum-told returns returns-2)
+dir-kind-spec = tie.close (tie.spec dir-kind-requires enum-known-k enum-told returns returns-2)

@@ -1,0 +1,2 @@
+-- What the walks by hand of the exported calls share.
+pub mod Arrays
