@@ -8,8 +8,9 @@ use mathlib.Core.Path.{_≡_, refl, sym, ap, _∙_, subst}
 use borrow.Author.Tests.{ne-eqb}
 use lib.Dec.{eqb, ltb}
 use lib.ListN.{length, getD, set, length-map}
-use Rattle.loops.specs.Loops.{pick}
+use Rattle.loops.specs.Loops.{pick, first, first-start, first-go, first-stop, first-end}
 use Rattle.loops.specs.Found.{find, findFrom, find-start, find-go, find-stop, find-end}
+use Rattle.vdisk.specs.Ids.{handed}
 use Rattle.vdisk.specs.Owner.{upTo}
 use Rattle.file_table.specs.declared.VF.{VF}
 use Rattle.files.specs.Files.{idOf, dirSlotOf, startOf, sizeOf, withId, withIds}
@@ -17,7 +18,7 @@ use Rattle.files.specs.FilesLaws.{same-ids}
 use Rattle.last_file.specs.FileBy.{fileUpTo}
 use Rattle.last_file.specs.declared.LastFile.{LastFile}
 use Rattle.turn_file.specs.TurnFile.{unturnedAt, unturnedRow, fileOf, withRow}
-use Rattle.row_walks.specs.Rows.{filesAsked, filesBy}
+use Rattle.row_walks.specs.Rows.{filesAsked, filesBy, handedIn, handedRow}
 
 -- a row that stands for none
 abbrev pub noRow : VF
@@ -64,6 +65,33 @@ module _ (k n : ℕ) (fs : List VF) where
     sought-end l =
         ap (fileOf (map idOf fs) (map startOf fs) (map sizeOf fs))
         (find-end (askedRow k n fs) (length (map idOf fs)) i (find (askedRow k n fs) (length (map idOf fs))) inv (subst (λ (m : ℕ). m ≤ i) (sym (length-map fs idOf)) l))
+
+-- the search for a handed file, from row i on, finds what the whole search finds
+abbrev pub SoughtHanded : List VF → ℕ → Type 0
+SoughtHanded fs i = handedRow fs ≡ first (handedIn fs) (length fs - i) i
+
+module _ (fs : List VF) where
+  handed-row : (i : ℕ) → handed (getD fs i noRow .id) ≡ handedIn fs i
+  handed-row i = ap handed (column-at idOf refl fs i)
+
+  pub handed-start : SoughtHanded fs 0
+  handed-start = first-start (handedIn fs) (length fs)
+
+  module _ (i : ℕ) (inv : SoughtHanded fs i) where
+    pub handed-go : i < length fs → handed (getD fs i noRow .id) ≡ false → SoughtHanded fs (i + 1)
+    handed-go l e = first-go (handedIn fs) (length fs) i (handedRow fs) inv l (sym (handed-row i) ∙ e)
+
+    pub handed-stop : i < length fs → handed (getD fs i noRow .id) ≡ true → i ≡ handedRow fs
+    handed-stop l e = first-stop (handedIn fs) (length fs) i (handedRow fs) inv l (sym (handed-row i) ∙ e)
+
+    pub handed-end : length fs ≤ i → i ≡ handedRow fs
+    handed-end l = first-end (handedIn fs) (length fs) i (handedRow fs) inv l
+
+-- past the end there is no id
+pub no-id : (fs : List VF) (i : ℕ) → length fs ≤ i → 0 ≡ getD (map idOf fs) i 0
+no-id [] i l = refl
+no-id (f ∷ fs) zero l = absurd (not-suc-le-zero l)
+no-id (f ∷ fs) (suc i) l = no-id fs i (le-of-suc-le-suc l)
 
 -- the table with the id of the n-th row set
 abbrev pub withIdAt : List VF → ℕ → ℕ → List VF

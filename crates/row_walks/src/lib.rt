@@ -1,15 +1,18 @@
-// Thin walks of the lent table to one row: the file that a directory sector asks for, the last that starts at or before a cluster, and one id stored.
+// Thin walks of the lent table to one row: the file that a directory sector asks for, the last that starts at or before a cluster, the first that
+// is handed, and one id read or stored.
 mod search;
 
 use crate::search::rows_by;
 use file_table::VF;
 use last_file::LastFile;
 use turn_file::is_unturned_at;
+use vdisk::ids::is_handed;
 ghost use mathlib.Core.List.{map};
 ghost use mathlib.Core.Path.{_≡_};
+ghost use lib.ListN.{getD};
 ghost use Rattle.files.specs.Files.{idOf, withIds};
 ghost use Rattle.turn_file.specs.TurnFile.{withRow};
-ghost use Rattle.row_walks.specs.Rows.{filesAsked, filesBy};
+ghost use Rattle.row_walks.specs.Rows.{filesAsked, filesBy, handedRow};
 
 // The first unturned file shown in directory `k` at slot `n`, with how many rows there are up to it; zeros where there is none.
 pub fn row_at(files: &[VF], k: u16, n: u32) -> LastFile
@@ -64,6 +67,32 @@ pub fn row_by(files: &[VF], first: u32, c: u32) -> LastFile
         start: f.vstart,
         size: f.vsize,
     }
+}
+
+// The first row whose file is handed, the number of rows where none is.
+pub fn handed_row(files: &[VF]) -> usize
+    ensures { λ r. ⌜ r ≡ handedRow (now (files .entry)) ⌝ }
+{
+    let mut i = 0;
+    while i < files.len() {
+        let f = files[i];
+        if is_handed(f.id) {
+            return i;
+        }
+        i = i + 1;
+    }
+    i
+}
+
+// The id of row `i`, 0 where there is no such row.
+pub fn id_at(files: &[VF], i: usize) -> u16
+    ensures { λ r. ⌜ r ≡ getD (map idOf (now (files .entry))) i 0 ⌝ }
+{
+    if files.len() <= i {
+        return 0;
+    }
+    let f = files[i];
+    f.id
 }
 
 // The id of the `n`-th row set; none where `n` is 0 or past the end.

@@ -1,15 +1,16 @@
 -- Laws of the calls of a session over the lent table: what a call leaves by columns is what it leaves of the files.
-use Prim.Native.Nat.{ℕ, _≤_, _<_}
-use mathlib.Core.Bool.{Bool, true, false, true≢false, false≢true}
+use Prim.Native.Nat.{ℕ, _+_, _-_, _≤_, _<_, zero-le}
+use mathlib.Core.Bool.{Bool, true, false, true≢false, false≢true, _&&_}
 use mathlib.Core.List.{List, [], _∷_, _++_, map}
 use mathlib.Core.Path.{_≡_, refl, sym, ap, _∙_, subst}
-use lib.Dec.{ltb, leb}
-use lib.ListN.{length, take, getD, length-map}
+use lib.Dec.{ltb, leb, eqb}
+use lib.ListN.{length, take, getD, set, length-map}
 use native.Mathlib.Omega.{arith}
-use borrow.Author.Tests.{lt-ltb, le-ltb, ltb-true, ltb-false, lt-leb}
-use Rattle.loops.specs.Loops.{pick}
+use borrow.Author.Tests.{lt-ltb, le-ltb, ltb-true, ltb-false, leb-true, leb-false, lt-leb, ne-eqb}
+use Rattle.loops.specs.Loops.{pick, first}
 use Rattle.loops.specs.Choices.{either, pick-by, and-no}
-use Rattle.loops.specs.declared.Found.the-variants.{At, Nothing}
+use Rattle.loops.specs.Facts.{first-at, first-below}
+use Rattle.bits.specs.Bit.{setBit}
 use Rattle.vdisk.specs.Ids.{handed}
 use Rattle.file_table.specs.Table.{maxFiles, columns, tableOf, wholeColumns, accepts}
 use Rattle.file_table.specs.declared.VF.{VF}
@@ -19,11 +20,12 @@ use Rattle.files.specs.declared.Columns.{Columns}
 use Rattle.state.specs.declared.w.W.{W}
 use Rattle.release.specs.Release.{Lending, lending, Ended, fits, turnedDown, releaseCall, releaseAllCall}
 use Rattle.sessions.specs.Poll.{pollCall}
-use Rattle.sessions.specs.Sessions.{Finds, Reported, busResetCall, reportGone, start}
+use Rattle.sessions.specs.Sessions.{Reported as Left, busResetCall, reportGone, start}
+use Rattle.sessions.specs.SessionLaws.{handedAt}
 use Rattle.session_calls.specs.declared.Closed.{Closed}
-use Rattle.session_calls.specs.declared.HandedAnswer.{HandedAnswer}
+use Rattle.session_calls.specs.declared.Reported.{Reported}
 use Rattle.session_calls.specs.Calls.{filesLending, endAnswer, EndsBy, ReportsBy}
-use Rattle.session_calls.specs.Calls.{columnsLending, refusedEnd, columnsEnded, columnsTable, columnsStarted, columnsGone, FindsHanded, FindsFile, FindsColumns}
+use Rattle.session_calls.specs.Calls.{columnsLending, refusedEnd, columnsEnded, columnsTable, columnsStarted, FindsHanded, handedAnswer, rowReported}
 
 take-front : (xs ys : List ℕ) → take (length xs) (xs ++ ys) ≡ xs
 take-front [] ys = refl
@@ -126,56 +128,49 @@ starts-by files first w =
     (λ e. let l = ltb-false maxFiles (length files) e in
     λ i. pick (e i) (record { number = 10; w = w }) (start (tableOf (column-of idOf files l i) (column-of dirSlotOf files l i) (column-of startOf files l i) (column-of sizeOf files l i) first) w))
 
--- a report by columns
-module _ (c : Columns) (j : ℕ) where
-  abbrev pub LeavesGone : ℕ → List ℕ → Type 0
-  LeavesGone m ids = (m ≡ columnsGone c j .number) × (take (rowsTaken (c .n)) ids ≡ columnsGone c j .ids)
+-- a report of one row is a report of the ids
+module _ (ids : List ℕ) (j : ℕ) where
+  abbrev RowAs : Left → Reported → Type 0
+  RowAs z r = (r .no ≡ z .number) × (pick (eqb (r .n) 0) ids (set ids (r .n - 1) (r .id)) ≡ z .ids)
 
-  pub gone-many : (ids : List ℕ) → maxFiles < c .n → LeavesGone 10 ids
-  unfolding columnsGone rowsTaken
-  gone-many ids l = let t = lt-ltb maxFiles (c .n) l in (rw t, rw t)
+  next-row : (x : ℕ) → pick (eqb (j + 1) 0) ids (set ids (j + 1 - 1) x) ≡ set ids j x
+  next-row x =
+      let z : j + 1 - 1 ≡ j = omega arith in
+      ap (λ (b : Bool). pick b ids (set ids (j + 1 - 1) x)) (ne-eqb (j + 1) 0 (λ e. omega (arith, e))) ∙ ap (λ (k : ℕ). set ids k x) z
 
-  pub gone-few : (m : ℕ) (ids rest : List ℕ) → c .n ≤ maxFiles → length ids ≡ c .n
-      → (m ≡ reportGone (take (c .n) (c .ids)) j .number) × (ids ≡ reportGone (take (c .n) (c .ids)) j .ids) → LeavesGone m (ids ++ rest)
-  unfolding columnsGone
-  gone-few m ids rest l n e = let t = le-ltb maxFiles (c .n) l in (rw (t, e .0), front ids rest (c .n) l n ∙ e .1 ∙ sym (ap (λ (b : Bool). (pick b (record { number = 10; ids = [] }) (reportGone (take (c .n) (c .ids)) j)) .ids) t))
+  row-is : RowAs (reportGone ids j) (rowReported (length ids) j (getD ids j 0))
+  unfolding reportGone rowReported
+  row-is = either (leb (length ids) maxFiles)
+      (λ e. either (ltb j (length ids) && handed (getD ids j 0)) (λ h. (rw (e, h), rw (e, h) (next-row (setBit (getD ids j 0) 14)))) (λ h. (rw (e, h), rw (e, h))))
+      (λ e. (rw e, rw e))
 
--- ... is a report of the files
-module _ (files : List VF) (j : ℕ) where
-  abbrev SameIds : Reported → Type 0
-  SameIds z = ReportsBy j files (z .number) (withIds files (z .ids))
-
-  gone-of-many : maxFiles < length files → SameIds (record { number = 10; ids = [] })
-  unfolding reportGone
-  gone-of-many l = let t = too-long idOf files l in (rw t, rw t (no-ids files ∙ sym (same-ids files)))
-
-  gone-by-columns : SameIds (columnsGone (columnsOf files) j)
-  unfolding columnsGone
-  gone-by-columns = pick-by SameIds (ltb maxFiles (length files)) (record { number = 10; ids = [] }) (reportGone (take (length files) (columnsOf files .ids)) j)
-      (λ e. gone-of-many (ltb-true maxFiles (length files) e)) (λ e. subst (λ (ids : List ℕ). SameIds (reportGone ids j)) (sym (column-of idOf files (ltb-false maxFiles (length files) e))) (refl, refl))
-
-  pub gone-by : (m : ℕ) (ids : List ℕ) → LeavesGone (columnsOf files) j m ids
-      → ReportsBy j files m (withIds files (take (rowsTaken (length files)) ids))
-  gone-by m ids e = (e .0 ∙ gone-by-columns .0, ap (withIds files) (e .1) ∙ gone-by-columns .1)
+-- ... of the files
+pub row-reports : (files : List VF) (j : ℕ) (r : Reported) (left : List VF) → r ≡ rowReported (length files) j (getD (map idOf files) j 0)
+    → left ≡ withIds files (pick (eqb (r .n) 0) (map idOf files) (set (map idOf files) (r .n - 1) (r .id))) → ReportsBy j files (r .no) left
+row-reports files j r left e q =
+    let s = subst (RowAs (map idOf files) j (reportGone (map idOf files) j)) (ap (λ (k : ℕ). rowReported k j (getD (map idOf files) j 0)) (length-map files idOf) ∙ sym e) (row-is (map idOf files) j) in
+    (s .0, q ∙ ap (withIds files) (s .1))
 
 -- the finder
 module _ (n : ℕ) (ids : List ℕ) where
-  pub finds-many : maxFiles < n → FindsHanded n ids (record { no = 10; found = false; row = 0 })
+  many : maxFiles < n → FindsHanded n ids (record { no = 10; found = false; row = 0 })
   unfolding FindsHanded
-  finds-many l = (λ _. refl, λ m. absurd (omega (arith, l, m)), λ m. absurd (omega (arith, l, m)))
+  many l = (λ _. refl, λ m. absurd (omega (arith, l, m)), λ m. absurd (omega (arith, l, m)))
 
-  pub finds-at : n ≤ maxFiles → length ids ≡ n → (j : ℕ) → Finds ids (At j) → FindsHanded n ids (record { no = 0; found = true; row = j })
-  unfolding FindsHanded Finds
-  finds-at l e j h = (λ m. absurd (omega (arith, l, m)), λ _ _. (refl, subst (λ (k : ℕ). j < k) e (h .0), h .1), λ _ q. absurd (true≢false q))
+  found-at : n ≤ maxFiles → (j : ℕ) → j < n → handed (getD ids j 0) ≡ true → FindsHanded n ids (record { no = 0; found = true; row = j })
+  unfolding FindsHanded
+  found-at l j m h = (λ z. absurd (omega (arith, l, z)), λ _ _. (refl, m, h), λ _ q. absurd (true≢false q))
 
-  pub finds-none : n ≤ maxFiles → length ids ≡ n → Finds ids Nothing → FindsHanded n ids (record { no = 0; found = false; row = 0 })
-  unfolding FindsHanded Finds
-  finds-none l e h = (λ m. absurd (omega (arith, l, m)), λ _ q. absurd (false≢true q), λ _ _. (refl, refl, λ j m. h j (subst (λ (k : ℕ). j < k) (sym e) m)))
+  found-none : n ≤ maxFiles → ((j : ℕ) → j < n → handed (getD ids j 0) ≡ false) → FindsHanded n ids (record { no = 0; found = false; row = 0 })
+  unfolding FindsHanded
+  found-none l h = (λ m. absurd (omega (arith, l, m)), λ _ q. absurd (false≢true q), λ _ _. (refl, refl, h))
 
-pub finds-by : (files : List VF) (r : HandedAnswer) → FindsColumns (columnsOf files) r → FindsFile files r
-unfolding FindsHanded
-finds-by files r e = (
-  e .0,
-  λ l f. let h = e .1 l f in (h .0, h .1, subst (λ (ids : List ℕ). handed (getD ids (r .row) 0) ≡ true) (column-of idOf files l) (h .2)),
-  λ l f. let h = e .2 l f in (h .0, h .1, λ j m. subst (λ (ids : List ℕ). handed (getD ids j 0) ≡ false) (column-of idOf files l) (h .2 j m)),
-)
+  -- it answers by the first handed row
+  pub finds-first : FindsHanded n ids (handedAnswer n (first (handedAt ids) n 0))
+  unfolding handedAnswer
+  finds-first = pick-by (FindsHanded n ids) (ltb maxFiles n) (record { no = 10; found = false; row = 0 })
+      (pick (leb n (first (handedAt ids) n 0)) (record { no = 0; found = false; row = 0 }) (record { no = 0; found = true; row = first (handedAt ids) n 0 }))
+      (λ e. many (ltb-true maxFiles n e))
+      (λ e. pick-by (FindsHanded n ids) (leb n (first (handedAt ids) n 0)) (record { no = 0; found = false; row = 0 }) (record { no = 0; found = true; row = first (handedAt ids) n 0 })
+      (λ h. found-none (ltb-false maxFiles n e) (λ j m. let l = leb-true n (first (handedAt ids) n 0) h in first-below (handedAt ids) n 0 j zero-le (omega (arith, l, m))))
+      (λ h. let l = leb-false n (first (handedAt ids) n 0) h in found-at (ltb-false maxFiles n e) (first (handedAt ids) n 0) l (first-at (handedAt ids) n 0 (omega (arith, l)))))

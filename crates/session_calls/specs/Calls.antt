@@ -1,11 +1,12 @@
 -- The calls of a session over the lent table: the definitions that they cite, of the table's columns.
-use Prim.Native.Nat.{ℕ, _<_, _≤_}
-use mathlib.Core.Bool.{Bool, true, false}
+use Prim.Native.Nat.{ℕ, _+_, _<_, _≤_}
+use mathlib.Core.Bool.{Bool, true, false, _&&_}
 use mathlib.Core.List.{List, [], map}
 use mathlib.Core.Path.{_≡_}
-use lib.Dec.{ltb}
+use lib.Dec.{leb, ltb}
 use lib.ListN.{length, take, getD}
 use Rattle.loops.specs.Loops.{pick}
+use Rattle.bits.specs.Bit.{setBit}
 use Rattle.vdisk.specs.Ids.{handed}
 use Rattle.file_table.specs.Table.{Table, maxFiles, tableOf}
 use Rattle.file_table.specs.declared.VF.{VF}
@@ -13,10 +14,12 @@ use Rattle.files.specs.Files.{idOf, startOf, sizeOf, withIds}
 use Rattle.files.specs.declared.Columns.{Columns}
 use Rattle.state.specs.declared.w.W.{W}
 use Rattle.release.specs.Release.{Lending, lending, Ended}
-use Rattle.sessions.specs.Sessions.{Reported, reportGone, Started, start, setReadOnly, modeReset}
+use Rattle.sessions.specs.Sessions.{reportGone, Started, start, setReadOnly, modeReset}
 use Rattle.session_calls.specs.declared.End.{End}
 use Rattle.session_calls.specs.declared.EndAnswer.{EndAnswer}
+use Rattle.session_calls.specs.declared.Handed.{Handed}
 use Rattle.session_calls.specs.declared.HandedAnswer.{HandedAnswer}
+use Rattle.session_calls.specs.declared.Reported.{Reported}
 
 -- what a release is lent, with a table of files
 abbrev pub filesLending : List ℕ → List ℕ → List VF → Lending
@@ -63,6 +66,24 @@ FindsHanded n ids r =
 abbrev pub FindsFile : List VF → HandedAnswer → Type 0
 FindsFile files r = FindsHanded (length files) (map idOf files) r
 
+-- the finder's answer by what it tells through a reference, and by the first handed row, n where there is none
+abbrev pub handedWith : ℕ → Handed → HandedAnswer
+handedWith m h = record { no = m; found = h .found; row = h .row }
+
+unfoldable pub handedAnswer : ℕ → ℕ → HandedAnswer
+handedAnswer n j =
+    pick (ltb maxFiles n) (record { no = 10; found = false; row = 0 })
+    (pick (leb n j) (record { no = 0; found = false; row = 0 }) (record { no = 0; found = true; row = j }))
+
+-- a report of row j, whose id is given, among n files: the number, and which row gets which id
+unfoldable pub rowReported : ℕ → ℕ → ℕ → Reported
+rowReported n j id =
+    pick (leb n maxFiles)
+    (pick (ltb j n && handed id)
+    (record { no = 0; n = j + 1; id = setBit id 14 })
+    (record { no = 21; n = 0; id = 0 }))
+    (record { no = 10; n = 0; id = 0 })
+
 -- The same with the table by columns. Of more than 400 files there are no columns.
 abbrev pub columnsLending : List ℕ → List ℕ → Columns → Lending
 columnsLending fat area c = lending fat area (take (c .n) (c .ids)) (take (c .n) (c .starts)) (take (c .n) (c .sizes))
@@ -78,9 +99,3 @@ columnsTable c first = tableOf (take (c .n) (c .ids)) (take (c .n) (c .slots)) (
 
 unfoldable pub columnsStarted : Columns → ℕ → W → Started
 columnsStarted c first w = pick (ltb maxFiles (c .n)) (record { number = 10; w = w }) (start (columnsTable c first) w)
-
-unfoldable pub columnsGone : Columns → ℕ → Reported
-columnsGone c j = pick (ltb maxFiles (c .n)) (record { number = 10; ids = [] }) (reportGone (take (c .n) (c .ids)) j)
-
-abbrev pub FindsColumns : Columns → HandedAnswer → Type 0
-FindsColumns c r = FindsHanded (c .n) (take (c .n) (c .ids)) r

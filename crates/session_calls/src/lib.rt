@@ -1,17 +1,16 @@
-// The calls of a session over the table by its columns. Of more than 400 files there are none, and each call answers 10.
+// The calls of a session over the table by its columns, or by one row of it. Of more than 400 files there are none, and each call answers 10.
 use file_table::MAX_VF;
 use files::Columns;
-use loops::Found;
 use release::Ended;
 use release::release;
 use release::release_all;
-use sessions::gone::find_handed;
-use sessions::gone::report_gone;
 use sessions::mode::on_bus_reset;
 use sessions::poll::poll;
 use sessions::start::start;
 use state::w::Answer;
 use state::w::W;
+use vdisk::ids::GONE;
+use vdisk::ids::is_handed;
 ghost use mathlib.Core.Bool.{false};
 ghost use mathlib.Core.Path.{_≡_};
 ghost use lib.ListN.{take};
@@ -19,7 +18,7 @@ ghost use Rattle.files.specs.Files.{rowsTaken};
 ghost use Rattle.release.specs.Release.{releaseCall, releaseAllCall};
 ghost use Rattle.sessions.specs.Poll.{pollCall};
 ghost use Rattle.sessions.specs.Sessions.{busResetCall};
-ghost use Rattle.session_calls.specs.Calls.{endAnswer, columnsEnded, columnsStarted, columnsGone, FindsColumns};
+ghost use Rattle.session_calls.specs.Calls.{endAnswer, columnsEnded, columnsStarted, rowReported, handedAnswer};
 
 // What a call that may end the session answers: the refusal number; 0 where no release was due, 1 where one ran to its end, 2 where it was put
 // off; whether there was anything to release.
@@ -43,14 +42,21 @@ pub struct Closed {
     pub ids: [u16; MAX_VF],
 }
 
-// What a report answers: the number and the ids then.
+// What a report answers: the number, and which row gets which id, counted from 1, 0 where none does.
 pub struct Reported {
     pub no: u8,
-    pub ids: [u16; MAX_VF],
+    pub n: usize,
+    pub id: u16,
 }
 
-// The finder's answer: the refusal number (10), is a file handed, and its row, 0 where none is.
+// Is a file handed, and its row, 0 where none is.
 #[repr(C)]
+pub struct Handed {
+    pub found: bool,
+    pub row: usize,
+}
+
+// ... with the refusal number (10).
 pub struct HandedAnswer {
     pub no: u8,
     pub found: bool,
@@ -184,22 +190,43 @@ pub fn start_columns(w: W, c: Columns, first: u32) -> Answer
     start(w, &ids[..n], &slots[..n], &starts[..n], &sizes[..n], first)
 }
 
-pub fn gone_columns(c: Columns, row: usize) -> Reported
-    ensures { λ r. ⌜ (r .no ≡ columnsGone c row .number) × (take (rowsTaken (c .n)) (r .ids) ≡ columnsGone c row .ids) ⌝ }
+// A report of a row that has `id`, among `n` files: 21 where there is no such row or its file isn't handed.
+pub fn row_reported(n: usize, row: usize, id: u16) -> Reported
+    ensures { λ r. ⌜ r ≡ rowReported n row id ⌝ }
 {
-    let mut ids = c.ids;
-    let n = c.n;
     if MAX_VF < n {
-        return Reported { no: 10, ids: ids };
+        return Reported {
+            no: 10,
+            n: 0,
+            id: 0,
+        };
     }
-    let no = report_gone(&mut ids[..n], row);
-    Reported { no: no, ids: ids }
+    if n <= row {
+        return Reported {
+            no: 21,
+            n: 0,
+            id: 0,
+        };
+    }
+    if !is_handed(id) {
+        return Reported {
+            no: 21,
+            n: 0,
+            id: 0,
+        };
+    }
+    let gone = bits::set_u16(id, GONE);
+    Reported {
+        no: 0,
+        n: row + 1,
+        id: gone,
+    }
 }
 
-pub fn find_columns(c: Columns) -> HandedAnswer
-    ensures { λ r. ⌜ FindsColumns c r ⌝ }
+// The finder's answer among `n` files, of which row `j` is the first that is handed; `n` where none is.
+pub fn handed_answer(n: usize, j: usize) -> HandedAnswer
+    ensures { λ r. ⌜ r ≡ handedAnswer n j ⌝ }
 {
-    let n = c.n;
     if MAX_VF < n {
         return HandedAnswer {
             no: 10,
@@ -207,14 +234,13 @@ pub fn find_columns(c: Columns) -> HandedAnswer
             row: 0,
         };
     }
-    let ids = c.ids;
-    let Found::At(j) = find_handed(&ids[..n]) else {
+    if n <= j {
         return HandedAnswer {
             no: 0,
             found: false,
             row: 0,
         };
-    };
+    }
     HandedAnswer {
         no: 0,
         found: true,

@@ -1,19 +1,25 @@
 // What was handed, and reports that it is gone.
 use file_table::VF;
-use files::load;
-use files::set_ids;
-use session_calls::HandedAnswer;
-use session_calls::find_columns;
-use session_calls::gone_columns;
-ghost use Rattle.session_calls.specs.Calls.{FindsFile, ReportsBy};
+use row_walks::handed_row;
+use row_walks::id_at;
+use row_walks::put_id;
+use session_calls::Handed;
+use session_calls::handed_answer;
+use session_calls::row_reported;
+ghost use Rattle.session_calls.specs.Calls.{FindsFile, handedWith, ReportsBy};
 
-// A row whose file is handed, if there is one.
+// A row whose file is handed, if there is one: the refusal number.
 #[no_mangle]
-pub extern "C" fn vwrite_find_handed(files: &[VF]) -> HandedAnswer
-    ensures { λ r. ⌜ FindsFile (now (files .entry)) r ⌝ }
+pub extern "C" fn vwrite_find_handed(files: &[VF], handed: &mut Handed) -> u8
+    ensures { λ r. ⌜ FindsFile (now (files .entry)) (handedWith r (now (handed .exit))) ⌝ }
 {
-    let c = load(files);
-    find_columns(c)
+    let j = handed_row(files);
+    let a = handed_answer(files.len(), j);
+    *handed = Handed {
+        found: a.found,
+        row: a.row,
+    };
+    a.no
 }
 
 // The file of a row is gone: the refusal number.
@@ -21,8 +27,8 @@ pub extern "C" fn vwrite_find_handed(files: &[VF]) -> HandedAnswer
 pub extern "C" fn vwrite_report_gone(files: &mut [VF], row: usize) -> u8
     ensures { λ r. ⌜ ReportsBy row (now (files .entry)) r (now (files .exit)) ⌝ }
 {
-    let c = load(files);
-    let o = gone_columns(c, row);
-    set_ids(files, o.ids);
+    let id = id_at(files, row);
+    let o = row_reported(files.len(), row, id);
+    put_id(files, o.n, o.id);
     o.no
 }
