@@ -22,18 +22,8 @@ use state_calls::strict_name;
 use vdisk::drive::nclus;
 use write::early::early_of;
 use write::early::tally_of;
-ghost use mathlib.Core.Path.{_≡_};
-ghost use Rattle.vdisk.specs.Drive.{clustersOf, dirKindOf};
-ghost use Rattle.records.specs.Records.{rootRec};
-ghost use Rattle.root_slots.specs.RootSlots.{strictOf};
-ghost use Rattle.state.specs.Pairs.{pairOf};
-ghost use Rattle.state.specs.Queries.{bootOf, fat1Of, frozenOf};
-ghost use Rattle.medium.specs.Reads.{stagedAnswer, stagedBytes};
-ghost use Rattle.chains.specs.Chains.{completeOf};
-ghost use Rattle.body.specs.Body.{bodyOf};
-ghost use Rattle.crc.specs.Crc.{crcOf};
-ghost use Rattle.table_calls.specs.Calls.{WritesBy};
-ghost use Rattle.state_calls.specs.Answers.{pairAnswer, dirAnswer, filesOwner};
+ghost use Rattle.vwrite.specs.Calls.{Writes, ReadsStaged, TellsPair, TellsRecord, TellsBoot, TellsFat1, TellsFrozen};
+ghost use Rattle.vwrite.specs.Calls.{TellsChain, ChecksBody, TellsCrc, TellsStrict, TellsOwner, TellsKind, TellsClusters};
 
 // A written sector is judged: the refusal number, 0 where it is taken.
 #[no_mangle]
@@ -47,7 +37,7 @@ pub extern "C" fn vwrite_write(
     fat: &[u16],
     area: &mut [u8],
 ) -> u8
-    ensures { λ r. ⌜ WritesBy lba (now (shown .entry)) (now (written .entry)) busy (now (fat .entry)) (now (area .entry)) (now (w .entry)) (now (files .entry))
+    ensures { λ r. ⌜ Writes lba (now (shown .entry)) (now (written .entry)) busy (now (fat .entry)) (now (area .entry)) (now (w .entry)) (now (files .entry))
         r (now (w .exit)) (now (files .exit)) (now (area .exit)) ⌝ }
 {
     let e = early_of(w.rw, files.len(), lba, shown, written);
@@ -72,8 +62,7 @@ pub extern "C" fn vwrite_staged_read(
     out: &mut [u8],
     staged: &mut bool,
 ) -> u8
-    ensures { λ r. ⌜ (record { no = r; staged = now (staged .exit) } ≡ stagedAnswer (now (w .entry) .st) c s (now (out .entry)))
-        × (now (out .exit) ≡ stagedBytes (now (fat .entry)) (now (area .entry)) (now (w .entry) .st) c s (now (out .entry))) ⌝ }
+    ensures { λ r. ⌜ ReadsStaged (now (fat .entry)) (now (area .entry)) (now (w .entry)) c s (now (out .entry)) r (now (staged .exit)) (now (out .exit)) ⌝ }
 {
     staged_read(w.st, fat, area, c, s, out, staged)
 }
@@ -81,7 +70,7 @@ pub extern "C" fn vwrite_staged_read(
 // The host's FAT entry of a cluster: is there one, and its value.
 #[no_mangle]
 pub extern "C" fn vwrite_pair(w: &W, c: u32, v: &mut u16) -> bool
-    ensures { λ r. ⌜ record { found = r; v = now (v .exit) } ≡ pairAnswer (pairOf (now (w .entry) .pair) c) ⌝ }
+    ensures { λ r. ⌜ TellsPair (now (w .entry)) c r (now (v .exit)) ⌝ }
 {
     pair(w.pair, c, v)
 }
@@ -89,7 +78,7 @@ pub extern "C" fn vwrite_pair(w: &W, c: u32, v: &mut u16) -> bool
 // The host's record in a root slot: is there one, and its bytes.
 #[no_mangle]
 pub extern "C" fn vwrite_root_rec(w: &W, slot: usize, e: &mut [u8; 32]) -> bool
-    ensures { λ r. ⌜ record { found = r; e = now (e .exit) } ≡ rootRec (now (w .entry) .rec) slot ⌝ }
+    ensures { λ r. ⌜ TellsRecord (now (w .entry)) slot r (now (e .exit)) ⌝ }
 {
     root_rec(w.rec, slot, e)
 }
@@ -97,7 +86,7 @@ pub extern "C" fn vwrite_root_rec(w: &W, slot: usize, e: &mut [u8; 32]) -> bool
 // The boot byte as the host wrote it.
 #[no_mangle]
 pub extern "C" fn vwrite_boot_state(w: &W) -> u8
-    ensures { λ r. ⌜ r ≡ bootOf (now (w .entry)) ⌝ }
+    ensures { λ r. ⌜ TellsBoot (now (w .entry)) r ⌝ }
 {
     boot_state(*w)
 }
@@ -105,7 +94,7 @@ pub extern "C" fn vwrite_boot_state(w: &W) -> u8
 // FAT[1] as the host wrote it, 65535 if it didn't.
 #[no_mangle]
 pub extern "C" fn vwrite_fat1(w: &W) -> u16
-    ensures { λ r. ⌜ r ≡ fat1Of (now (w .entry)) ⌝ }
+    ensures { λ r. ⌜ TellsFat1 (now (w .entry)) r ⌝ }
 {
     fat1(*w)
 }
@@ -113,7 +102,7 @@ pub extern "C" fn vwrite_fat1(w: &W) -> u16
 // The layout must not change under the host.
 #[no_mangle]
 pub extern "C" fn vwrite_frozen(w: &W, mounted: bool) -> bool
-    ensures { λ r. ⌜ r ≡ frozenOf (now (w .entry)) mounted ⌝ }
+    ensures { λ r. ⌜ TellsFrozen (now (w .entry)) mounted r ⌝ }
 {
     frozen(*w, mounted)
 }
@@ -127,8 +116,7 @@ pub extern "C" fn vwrite_complete(
     slots: &mut [u8; NST],
     n: &mut usize,
 ) -> bool
-    ensures { λ r. ⌜ record { found = r; slots = now (slots .exit); n = now (n .exit) }
-        ≡ completeOf (now (w .entry) .pair) (now (w .entry) .st) start size ⌝ }
+    ensures { λ r. ⌜ TellsChain (now (w .entry)) start size r (now (slots .exit)) (now (n .exit)) ⌝ }
 {
     complete(w.pair, w.st, start, size, slots, n)
 }
@@ -143,8 +131,7 @@ pub extern "C" fn vwrite_body_check(
     size: u32,
     valid: &mut bool,
 ) -> u8
-    ensures { λ r. ⌜ record { no = r; valid = now (valid .exit) }
-        ≡ bodyOf (now (fat .entry)) (now (area .entry)) (now (w .entry) .pair) (now (w .entry) .st) start size ⌝ }
+    ensures { λ r. ⌜ ChecksBody (now (fat .entry)) (now (area .entry)) (now (w .entry)) start size r (now (valid .exit)) ⌝ }
 {
     body_check(w.pair, w.st, fat, area, start, size, valid)
 }
@@ -152,7 +139,7 @@ pub extern "C" fn vwrite_body_check(
 // The update file's CRC of more bytes, after `c`.
 #[no_mangle]
 pub extern "C" fn vwrite_crc16(c: u16, bytes: &[u8]) -> u16
-    ensures { λ r. ⌜ r ≡ crcOf c (now (bytes .entry)) ⌝ }
+    ensures { λ r. ⌜ TellsCrc c (now (bytes .entry)) r ⌝ }
 {
     crc16_upd(c, bytes)
 }
@@ -165,8 +152,7 @@ pub extern "C" fn vwrite_strict_name(
     slot: usize,
     housekeeping: &mut bool,
 ) -> u8
-    ensures { λ r. ⌜ record { no = r; housekeeping = now (housekeeping .exit) }
-        ≡ strictOf (now (w .entry) .rec) (now (sector .entry)) slot ⌝ }
+    ensures { λ r. ⌜ TellsStrict (now (w .entry)) (now (sector .entry)) slot r (now (housekeeping .exit)) ⌝ }
 {
     strict_name(w.rec, sector, slot, housekeeping)
 }
@@ -174,8 +160,7 @@ pub extern "C" fn vwrite_strict_name(
 // The owner of a cluster: the refusal number, and who it is; `first` is the first session cluster.
 #[no_mangle]
 pub extern "C" fn vwrite_owner(files: &[VF], first: u32, c: u32, own: &mut OwnRow) -> u8
-    ensures { λ r. ⌜ record { no = r; owner = now (own .exit) .owner; row = now (own .exit) .row }
-        ≡ filesOwner (now (files .entry)) first c ⌝ }
+    ensures { λ r. ⌜ TellsOwner (now (files .entry)) first c r (now (own .exit)) ⌝ }
 {
     let t = load(files);
     let o = owner(t, first, c);
@@ -187,7 +172,7 @@ pub extern "C" fn vwrite_owner(files: &[VF], first: u32, c: u32, own: &mut OwnRo
 // The directory that a cluster is: is it one, and its file kind.
 #[no_mangle]
 pub extern "C" fn vwrite_dir_kind(c: u32, kind: &mut u16) -> bool
-    ensures { λ r. ⌜ record { found = r; kind = now (kind .exit) } ≡ dirAnswer (dirKindOf c) ⌝ }
+    ensures { λ r. ⌜ TellsKind c r (now (kind .exit)) ⌝ }
 {
     dir_kind(c, kind)
 }
@@ -195,7 +180,7 @@ pub extern "C" fn vwrite_dir_kind(c: u32, kind: &mut u16) -> bool
 // Clusters of a file of so many bytes.
 #[no_mangle]
 pub extern "C" fn vwrite_nclus(size: u32) -> u32
-    ensures { λ r. ⌜ r ≡ clustersOf size ⌝ }
+    ensures { λ r. ⌜ TellsClusters size r ⌝ }
 {
     nclus(size)
 }

@@ -5,14 +5,12 @@ use reasons::after_gone;
 use reasons::after_write;
 use state::w::W;
 use state_calls::named;
-ghost use mathlib.Core.Path.{_≡_};
-ghost use Rattle.medium.specs.Reads.{movedRef};
-ghost use Rattle.reasons.specs.Reasons.{afterWrite, afterEnd, afterGone};
+ghost use Rattle.vwrite_reasons.specs.Calls.{TellsNamed, NotesWrite, NotesEnd, NotesGone};
 
 // Does a staged sector hold an ordinary slot with that start and size, as the medium stands.
 #[no_mangle]
 pub extern "C" fn vwrite_named(w: &W, fat: &[u16], area: &[u8], start: u16, size: u32) -> bool
-    ensures { λ r. ⌜ r ≡ movedRef (now (fat .entry)) (now (area .entry)) (now (w .entry) .st) start size ⌝ }
+    ensures { λ r. ⌜ TellsNamed (now (fat .entry)) (now (area .entry)) (now (w .entry)) start size r ⌝ }
 {
     named(w.st, fat, area, start, size)
 }
@@ -33,7 +31,7 @@ pub extern "C" fn vwrite_after_write(
     named: bool,
     staged: bool,
 )
-    ensures { λ _. ⌜ now (r .exit) ≡ afterWrite (now (r .entry)) id slot start size number lba (now (shown .entry)) (now (written .entry)) named staged ⌝ }
+    ensures { λ _. ⌜ NotesWrite (now (r .entry)) id slot start size number lba (now (shown .entry)) (now (written .entry)) named staged (now (r .exit)) ⌝ }
 {
     let a = after_write(
         *r,
@@ -54,7 +52,7 @@ pub extern "C" fn vwrite_after_write(
 // ... after a call that may end the session: what it answered as ended, the file's id then, and whether a staged sector named it before.
 #[no_mangle]
 pub extern "C" fn vwrite_after_end(r: &mut Reason, ended: u8, id: u16, named: bool)
-    ensures { λ _. ⌜ now (r .exit) ≡ afterEnd (now (r .entry)) ended id named ⌝ }
+    ensures { λ _. ⌜ NotesEnd (now (r .entry)) ended id named (now (r .exit)) ⌝ }
 {
     let a = after_end(*r, ended, id, named);
     *r = a;
@@ -63,7 +61,7 @@ pub extern "C" fn vwrite_after_end(r: &mut Reason, ended: u8, id: u16, named: bo
 // ... after a report of gone of `row` that answered `number`; the file is in row `j`.
 #[no_mangle]
 pub extern "C" fn vwrite_after_gone(r: &mut Reason, number: u8, row: usize, j: usize)
-    ensures { λ _. ⌜ now (r .exit) ≡ afterGone (now (r .entry)) number row j ⌝ }
+    ensures { λ _. ⌜ NotesGone (now (r .entry)) number row j (now (r .exit)) ⌝ }
 {
     let a = after_gone(*r, number, row, j);
     *r = a;
