@@ -8,10 +8,7 @@ use session_calls::poll_columns;
 use session_calls::release_all_columns;
 use session_calls::release_columns;
 use state::w::W;
-ghost use Rattle.release.specs.Release.{releaseCall, releaseAllCall};
-ghost use Rattle.sessions.specs.Poll.{pollCall};
-ghost use Rattle.sessions.specs.Sessions.{busResetCall};
-ghost use Rattle.session_calls.specs.Calls.{EndsBy, endWith};
+ghost use Rattle.vwrite_sessions.specs.Calls.{Polls, Releases, ReleasesAll, ResetsBus};
 
 // A tick of the clock, which ends the session where its end is due or it is quiet.
 #[no_mangle]
@@ -24,8 +21,7 @@ pub extern "C" fn vwrite_poll(
     area: &[u8],
     end: &mut End,
 ) -> u8
-    ensures { λ r. ⌜ EndsBy (λ x v. pollCall x v clock mounted) (now (fat .entry)) (now (area .entry))
-        (now (w .entry)) (now (files .entry)) (endWith r (now (end .exit))) (now (w .exit)) (now (files .exit)) ⌝ }
+    ensures { λ r. ⌜ Polls clock mounted (now (fat .entry)) (now (area .entry)) (now (w .entry)) (now (files .entry)) r (now (end .exit)) (now (w .exit)) (now (files .exit)) ⌝ }
 {
     let c = load(files);
     let o = poll_columns(*w, c, fat, area, clock, mounted);
@@ -47,7 +43,7 @@ pub extern "C" fn vwrite_release(
     area: &[u8],
     end: &mut End,
 ) -> u8
-    ensures { λ r. ⌜ EndsBy releaseCall (now (fat .entry)) (now (area .entry)) (now (w .entry)) (now (files .entry)) (endWith r (now (end .exit))) (now (w .exit)) (now (files .exit)) ⌝ }
+    ensures { λ r. ⌜ Releases (now (fat .entry)) (now (area .entry)) (now (w .entry)) (now (files .entry)) r (now (end .exit)) (now (w .exit)) (now (files .exit)) ⌝ }
 {
     let c = load(files);
     let o = release_columns(*w, c, fat, area);
@@ -70,8 +66,7 @@ pub extern "C" fn vwrite_release_all(
     area: &[u8],
     end: &mut End,
 ) -> u8
-    ensures { λ r. ⌜ EndsBy (λ x v. releaseAllCall x v reset) (now (fat .entry)) (now (area .entry)) (now (w .entry)) (now (files .entry))
-        (endWith r (now (end .exit))) (now (w .exit)) (now (files .exit)) ⌝ }
+    ensures { λ r. ⌜ ReleasesAll reset (now (fat .entry)) (now (area .entry)) (now (w .entry)) (now (files .entry)) r (now (end .exit)) (now (w .exit)) (now (files .exit)) ⌝ }
 {
     let c = load(files);
     let o = release_all_columns(*w, c, fat, area, reset);
@@ -93,7 +88,7 @@ pub extern "C" fn vdisk_on_bus_reset(
     area: &[u8],
     end: &mut End,
 ) -> u8
-    ensures { λ r. ⌜ EndsBy busResetCall (now (fat .entry)) (now (area .entry)) (now (w .entry)) (now (files .entry)) (endWith r (now (end .exit))) (now (w .exit)) (now (files .exit)) ⌝ }
+    ensures { λ r. ⌜ ResetsBus (now (fat .entry)) (now (area .entry)) (now (w .entry)) (now (files .entry)) r (now (end .exit)) (now (w .exit)) (now (files .exit)) ⌝ }
 {
     let c = load(files);
     let o = bus_reset_columns(*w, c, fat, area);

@@ -6,12 +6,12 @@ use row_walks::put_id;
 use session_calls::Handed;
 use session_calls::handed_answer;
 use session_calls::row_reported;
-ghost use Rattle.session_calls.specs.Calls.{FindsFile, handedWith, ReportsBy};
+ghost use Rattle.vwrite_sessions.specs.Calls.{Finds, Reports};
 
 // A row whose file is handed, if there is one: the refusal number.
 #[no_mangle]
 pub extern "C" fn vwrite_find_handed(files: &[VF], handed: &mut Handed) -> u8
-    ensures { λ r. ⌜ FindsFile (now (files .entry)) (handedWith r (now (handed .exit))) ⌝ }
+    ensures { λ r. ⌜ Finds (now (files .entry)) r (now (handed .exit)) ⌝ }
 {
     let j = handed_row(files);
     let a = handed_answer(files.len(), j);
@@ -25,7 +25,7 @@ pub extern "C" fn vwrite_find_handed(files: &[VF], handed: &mut Handed) -> u8
 // The file of a row is gone: the refusal number.
 #[no_mangle]
 pub extern "C" fn vwrite_report_gone(files: &mut [VF], row: usize) -> u8
-    ensures { λ r. ⌜ ReportsBy row (now (files .entry)) r (now (files .exit)) ⌝ }
+    ensures { λ r. ⌜ Reports row (now (files .entry)) r (now (files .exit)) ⌝ }
 {
     let id = id_at(files, row);
     let o = row_reported(files.len(), row, id);

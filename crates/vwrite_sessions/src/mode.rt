@@ -1,13 +1,11 @@
 // The mode.
 use state::w::W;
-ghost use mathlib.Core.Path.{_≡_};
-ghost use Rattle.sessions.specs.Sessions.{readOnly, readOnlyPending};
-ghost use Rattle.session_calls.specs.Calls.{AsksMode, SetsMode};
+ghost use Rattle.vwrite_sessions.specs.Calls.{Asks, PutsInForce, TellsMode, TellsPending};
 
 // Ask for the read-only drive, or the one that can be written.
 #[no_mangle]
 pub extern "C" fn vwrite_set_read_only(w: &mut W, on: bool)
-    ensures { λ _. ⌜ AsksMode on (now (w .entry)) (now (w .exit)) ⌝ }
+    ensures { λ _. ⌜ Asks on (now (w .entry)) (now (w .exit)) ⌝ }
 {
     w.want_rw = !on;
 }
@@ -15,7 +13,7 @@ pub extern "C" fn vwrite_set_read_only(w: &mut W, on: bool)
 // The mode that was asked for is in force.
 #[no_mangle]
 pub extern "C" fn vwrite_on_bus_reset(w: &mut W)
-    ensures { λ _. ⌜ SetsMode (now (w .entry)) (now (w .exit)) ⌝ }
+    ensures { λ _. ⌜ PutsInForce (now (w .entry)) (now (w .exit)) ⌝ }
 {
     w.rw = w.want_rw;
 }
@@ -23,7 +21,7 @@ pub extern "C" fn vwrite_on_bus_reset(w: &mut W)
 // The mode in force.
 #[no_mangle]
 pub extern "C" fn vwrite_read_only(w: &W) -> bool
-    ensures { λ r. ⌜ r ≡ readOnly (now (w .entry)) ⌝ }
+    ensures { λ r. ⌜ TellsMode (now (w .entry)) r ⌝ }
 {
     !w.rw
 }
@@ -31,7 +29,7 @@ pub extern "C" fn vwrite_read_only(w: &W) -> bool
 // The mode that is asked for.
 #[no_mangle]
 pub extern "C" fn vwrite_read_only_pending(w: &W) -> bool
-    ensures { λ r. ⌜ r ≡ readOnlyPending (now (w .entry)) ⌝ }
+    ensures { λ r. ⌜ TellsPending (now (w .entry)) r ⌝ }
 {
     !w.want_rw
 }
