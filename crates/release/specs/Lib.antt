@@ -2,3 +2,6 @@
 pub mod Undecided
 pub mod Release
 pub mod ReleaseLaws
+pub mod Notes
+pub mod NoteLaws
+pub mod WaitLaws

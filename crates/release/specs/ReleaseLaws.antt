@@ -1,11 +1,11 @@
 -- The ways of a release, and what a table that fits has.
-use Prim.Native.Nat.{ℕ}
+use Prim.Native.Nat.{ℕ, _≤_}
 use mathlib.Core.Bool.{Bool, true, false, _&&_}
 use mathlib.Core.List.{List}
 use mathlib.Core.Path.{_≡_}
 use lib.Dec.{leb, eqb}
 use lib.ListN.{length}
-use borrow.Author.Tests.{eqb-true}
+use borrow.Author.Tests.{leb-true, eqb-true}
 use Rattle.loops.specs.Choices.{and-0, and-1}
 use Rattle.file_table.specs.Table.{maxFiles}
 use Rattle.state.specs.declared.w.W.{W}
@@ -21,6 +21,14 @@ pub record Leaves (e : Ended) (number ended : ℕ) (had : Bool) (w : W) (ids : L
   pub table : ids ≡ e .ids
 
 module _ (x : Lending) where
+  pub fits-rows : fits x ≡ true → length (x .ids) ≤ maxFiles
+  unfolding fits
+  fits-rows e =
+      let a = leb (length (x .ids)) maxFiles in
+      let b = eqb (length (x .starts)) (length (x .ids)) in
+      let c = eqb (length (x .sizes)) (length (x .ids)) in
+      leb-true (length (x .ids)) maxFiles (and-0 a b (and-0 (a && b) c e))
+
   pub fits-starts : fits x ≡ true → length (x .starts) ≡ length (x .ids)
   unfolding fits
   fits-starts e =

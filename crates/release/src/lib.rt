@@ -1,5 +1,6 @@
 // How a session is released.
 pub mod ids;
+pub mod notes;
 pub mod released;
 pub mod undecided;
 

@@ -1,7 +1,7 @@
 use mathlib.Core.Path.{sym, _∙_}
 use borrow.Author.Tests.{not-true, not-false}
 use Rattle.release.specs.Release.{fits, lending}
-use Rattle.release.specs.ReleaseLaws.{fits-starts, fits-sizes, all-down, all-ran}
+use Rattle.release.specs.ReleaseLaws.{fits-rows, fits-starts, fits-sizes, all-down, all-ran}
 use borrow.Author.Needs.{needs}
 use Rattle.release.proofs.release_all.Statement.{statement}
 use Rattle.release.proofs.release_all.Tie as tie
@@ -18,7 +18,7 @@ returns c = let l = all-down _ _ _ (sym (c .before .table-fits .ensures) ∙ not
 
 release-ids-requires : tie.Need-release-ids-requires
 unfolding fits
-release-ids-requires c κs = let e = sym (c .before .before .before .table-fits .ensures) ∙ not-false _ (c .before .before .if1 .left) in (fits-starts (lending (c .before .before .before .before .before .before .before .before .before .before .args .fat .now) (c .before .before .before .before .before .before .before .before .before .before .args .area .now) (c .before .before .before .before .before .before .before .before .before .before .args .ids .now) (c .before .before .before .before .before .before .before .before .before .before .args .starts .now) (c .before .before .before .before .before .before .before .before .before .before .args .sizes .now)) e, fits-sizes (lending (c .before .before .before .before .before .before .before .before .before .before .args .fat .now) (c .before .before .before .before .before .before .before .before .before .before .args .area .now) (c .before .before .before .before .before .before .before .before .before .before .args .ids .now) (c .before .before .before .before .before .before .before .before .before .before .args .starts .now) (c .before .before .before .before .before .before .before .before .before .before .args .sizes .now)) e)
+release-ids-requires c κs = let e = sym (c .before .before .before .table-fits .ensures) ∙ not-false _ (c .before .before .if1 .left) in (fits-starts (lending (c .before .before .before .before .before .before .before .before .before .before .args .fat .now) (c .before .before .before .before .before .before .before .before .before .before .args .area .now) (c .before .before .before .before .before .before .before .before .before .before .args .ids .now) (c .before .before .before .before .before .before .before .before .before .before .args .starts .now) (c .before .before .before .before .before .before .before .before .before .before .args .sizes .now)) e, fits-sizes (lending (c .before .before .before .before .before .before .before .before .before .before .args .fat .now) (c .before .before .before .before .before .before .before .before .before .before .args .area .now) (c .before .before .before .before .before .before .before .before .before .before .args .ids .now) (c .before .before .before .before .before .before .before .before .before .before .args .starts .now) (c .before .before .before .before .before .before .before .before .before .before .args .sizes .now)) e, fits-rows (lending (c .before .before .before .before .before .before .before .before .before .before .args .fat .now) (c .before .before .before .before .before .before .before .before .before .before .args .area .now) (c .before .before .before .before .before .before .before .before .before .before .args .ids .now) (c .before .before .before .before .before .before .before .before .before .before .args .starts .now) (c .before .before .before .before .before .before .before .before .before .before .args .sizes .now)) e)
 
 had-any-requires : tie.Need-had-any-requires
 had-any-requires c κs = search needs
