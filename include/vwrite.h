@@ -1,10 +1,12 @@
-/* How written sectors of the mixer's USB drive are judged: the calls of libvwrite.a, and, from vwrite_start on, of libvwrite_sessions.a,
- * and, from vwrite_named on, of libvwrite_reasons.a.
+/* How written sectors of the mixer's USB drive are judged. The same header serves x86-64, where `rt staticlib` writes libvwrite.a, from vwrite_start on
+ * libvwrite_sessions.a, and from vwrite_named on libvwrite_reasons.a, and the processors of `firmware/build`, which writes all calls into one libvwrite.a.
  *
  * The caller owns everything: the state, the table of files, the sectors, and the medium. A call reads and writes what it is lent only while it
  * runs, keeps no pointer, and allocates nothing. What is passed by a pointer that is not const may be written; no two of those may overlap each
  * other or anything that is read. A slice is a pointer and its number of elements, in that order; of 0 elements the pointer is not null and is aligned, and is
- * not read. Every number of elements is taken; a wrong one is a refusal.
+ * not read. Every number of elements is taken; a wrong one is a refusal. A pointer without a number beside it is to one element, is never null, and is aligned.
+ *
+ * A call answers a number, or whether there is what was asked for; all else it writes through its last parameters, in every case, also a refused one.
  *
  * Refusal numbers, 0 where there is none:
  *    1  a sector isn't 512 bytes                    11  body check of a size under 128
@@ -26,6 +28,17 @@
 #include <stdbool.h>
 #include <stddef.h>
 #include <stdint.h>
+
+/* Of this header: the first number is another where a program that was compiled with an older one must be compiled anew. */
+#define VWRITE_VERSION_MAJOR 2
+#define VWRITE_VERSION_MINOR 0
+
+#ifdef __cplusplus
+extern "C" {
+#endif
+
+/* A number of elements, or a row: 64 bits on every machine. */
+typedef uint64_t vwrite_len;
 
 #define VWRITE_NREC 10
 #define VWRITE_NPAIR 40
@@ -106,83 +119,39 @@ typedef struct {
     uint32_t first;
 } vwrite_state;
 
-/* The refusal number (1, 2), and whether the cluster is staged. */
+/* Whose a cluster is: 0 Reserved, 1 Fixed, 2 a file, 3 Free; and the file's row, 0 where it is no file's. */
 typedef struct {
-    uint8_t no;
-    bool staged;
-} vwrite_staged;
-
-/* The host's FAT entry of a cluster: is there one, and its value, 0 where there is none. */
-typedef struct {
-    bool found;
-    uint16_t v;
-} vwrite_pair_answer;
-
-/* The host's record in a root slot: is there one, and its bytes, zeros where there is none. */
-typedef struct {
-    bool found;
-    uint8_t e[32];
-} vwrite_root_record;
-
-/* A file's chain: is it complete, its staging slots in the file's order, and how many they are. */
-typedef struct {
-    bool found;
-    uint8_t slots[VWRITE_NST];
-    size_t n;
-} vwrite_chain;
-
-/* The refusal number (1, 2, 7), and whether the name is housekeeping. */
-typedef struct {
-    uint8_t no;
-    bool housekeeping;
-} vwrite_strict;
-
-/* The refusal number (10); then 0 Reserved, 1 Fixed, 2 a file, 3 Free; and the file's row, 0 where it is no file's. */
-typedef struct {
-    uint8_t no;
     uint8_t owner;
-    size_t row;
+    vwrite_len row;
 } vwrite_own;
 
-/* The directory that a cluster is: is it one, and its file kind (3 for INFO and DEBUG), 0 where it is none. */
+/* What a call that may end the session did: 0 where no release was due, 1 where one ran to its end, 2 where it was put off; whether there was anything to
+ * release. */
 typedef struct {
-    bool found;
-    uint16_t kind;
-} vwrite_dir;
-
-/* The refusal number (11, 20), and whether the body is as it must be. */
-typedef struct {
-    uint8_t no;
-    bool valid;
-} vwrite_body;
-
-/* What a call that may end the session answers: the refusal number (10); 0 where no release was due, 1 where one ran to its end, 2 where it was
- * put off; whether there was anything to release. */
-typedef struct {
-    uint8_t no;
     uint8_t ended;
     bool had;
 } vwrite_end;
 
-/* The refusal number (10), whether a file is handed to deletion, and its row, 0 where none is. */
+/* Whether a file is handed to deletion, and its row, 0 where none is. */
 typedef struct {
-    uint8_t no;
     bool found;
-    size_t row;
+    vwrite_len row;
 } vwrite_handed;
 
 /* The sector written at lba is judged; shown is the one that the drive shows there. busy: the medium's bus is taken. The medium is fat, 3 to
  * 65,526 entries, only read, and area, 4,096 bytes for each entry after the second. Answers the refusal number: 1 to 10, 12 to 19. */
-uint8_t vwrite_write(vwrite_state *w, vwrite_file *files, size_t nfiles, uint32_t lba, const uint8_t *shown, size_t nshown, const uint8_t *written,
-                     size_t nwritten, bool busy, const uint16_t *fat, size_t nfat, uint8_t *area, size_t narea);
+uint8_t vwrite_write(vwrite_state *w, vwrite_file *files, vwrite_len nfiles, uint32_t lba, const uint8_t *shown, vwrite_len nshown, const uint8_t *written,
+                     vwrite_len nwritten, bool busy, const uint16_t *fat, vwrite_len nfat, uint8_t *area, vwrite_len narea);
 
-/* Sector s of the staged cluster c into out, 512 bytes, which stays as it is where the cluster is not staged. */
-vwrite_staged vwrite_staged_read(const vwrite_state *w, const uint16_t *fat, size_t nfat, const uint8_t *area, size_t narea, uint32_t c, uint32_t s,
-                                 uint8_t *out, size_t nout);
+/* Sector s of the staged cluster c into out, 512 bytes, which stays as it is where the cluster is not staged; whether it is. Answers 1 or 2 where refused. */
+uint8_t vwrite_staged_read(const vwrite_state *w, const uint16_t *fat, vwrite_len nfat, const uint8_t *area, vwrite_len narea, uint32_t c, uint32_t s,
+                           uint8_t *out, vwrite_len nout, bool *staged);
 
-vwrite_pair_answer vwrite_pair(const vwrite_state *w, uint32_t c);
+/* Is there a FAT entry of the host's for a cluster; its value, 0 where there is none. */
+bool vwrite_pair(const vwrite_state *w, uint32_t c, uint16_t *v);
 
-vwrite_root_record vwrite_root_rec(const vwrite_state *w, size_t slot);
+/* Is there a record of the host's in a root slot; its 32 bytes, zeros where there is none. */
+bool vwrite_root_rec(const vwrite_state *w, vwrite_len slot, uint8_t *e);
 
 /* The boot byte; FAT[1] as the host wrote it, 65535 if it didn't; must the layout not change under the host. */
 uint8_t vwrite_boot_state(const vwrite_state *w);
@@ -191,46 +160,49 @@ uint16_t vwrite_fat1(const vwrite_state *w);
 
 bool vwrite_frozen(const vwrite_state *w, bool mounted);
 
-/* The chain of an update file by its start and size. */
-vwrite_chain vwrite_complete(const vwrite_state *w, uint32_t start, uint32_t size);
+/* Is the chain of an update file with that start and size complete; its staging slots in the file's order, VWRITE_NST bytes, and how many they are. */
+bool vwrite_complete(const vwrite_state *w, uint32_t start, uint32_t size, uint8_t *slots, vwrite_len *n);
 
-/* Is the body of the update file with that start and size as it must be: its blocks decode, its length and CRC are those that it holds. */
-vwrite_body vwrite_body_check(const vwrite_state *w, const uint16_t *fat, size_t nfat, const uint8_t *area, size_t narea, uint32_t start,
-                              uint32_t size);
+/* Is the body of the update file with that start and size as it must be: its blocks decode, its length and CRC are those that it holds. Answers 11 or 20
+ * where refused. */
+uint8_t vwrite_body_check(const vwrite_state *w, const uint16_t *fat, vwrite_len nfat, const uint8_t *area, vwrite_len narea, uint32_t start,
+                          uint32_t size, bool *valid);
 
 /* The update file's CRC of more bytes, after c; from 0xFFFF for the first. */
-uint16_t vwrite_crc16(uint16_t c, const uint8_t *bytes, size_t n);
+uint16_t vwrite_crc16(uint16_t c, const uint8_t *bytes, vwrite_len n);
 
-/* Is the strict long name of a root slot from 7 to 511 housekeeping; sector is the one that the slot is in. */
-vwrite_strict vwrite_strict_name(const vwrite_state *w, const uint8_t *sector, size_t nsector, size_t slot);
+/* Is the strict long name of a root slot from 7 to 511 housekeeping; sector is the one that the slot is in. Answers 1, 2 or 7 where refused. */
+uint8_t vwrite_strict_name(const vwrite_state *w, const uint8_t *sector, vwrite_len nsector, vwrite_len slot, bool *housekeeping);
 
-/* Lookups in the drive's layout. */
-vwrite_own vwrite_owner(const vwrite_file *files, size_t nfiles, uint32_t first, uint32_t c);
+/* Lookups in the drive's layout: whose a cluster is (10 where refused); is it a directory, and its file kind (3 for INFO and DEBUG), 0 where it is none;
+ * clusters of a file of so many bytes. */
+uint8_t vwrite_owner(const vwrite_file *files, vwrite_len nfiles, uint32_t first, uint32_t c, vwrite_own *own);
 
-vwrite_dir vwrite_dir_kind(uint32_t c);
+bool vwrite_dir_kind(uint32_t c, uint16_t *kind);
 
 uint32_t vwrite_nclus(uint32_t size);
 
 /* A start: takes the table only if it is acceptable, and sets the state anew, read-only, with the first session cluster; 10 otherwise, and the old
  * table and state go on. The caller keeps the table and lends it to every later call as the last one left it. Before the first start *w holds
  * zeros. */
-uint8_t vwrite_start(vwrite_state *w, const vwrite_file *files, size_t nfiles, uint32_t first);
+uint8_t vwrite_start(vwrite_state *w, const vwrite_file *files, vwrite_len nfiles, uint32_t first);
 
 /* A tick of the clock, in milliseconds; it may go back. mounted: the computer has locked the medium. Ends a session whose held-back end is due or
- * that was quiet for a minute. */
-vwrite_end vwrite_poll(vwrite_state *w, vwrite_file *files, size_t nfiles, uint64_t clock, bool mounted, const uint16_t *fat, size_t nfat,
-                       const uint8_t *area, size_t narea);
+ * that was quiet for a minute. It, and each call that may end the session, answers 10 where refused. */
+uint8_t vwrite_poll(vwrite_state *w, vwrite_file *files, vwrite_len nfiles, uint64_t clock, bool mounted, const uint16_t *fat, vwrite_len nfat,
+                    const uint8_t *area, vwrite_len narea, vwrite_end *end);
 
 /* The session's end: the computer unmounted the drive. Put off while an update file isn't decided. */
-vwrite_end vwrite_release(vwrite_state *w, vwrite_file *files, size_t nfiles, const uint16_t *fat, size_t nfat, const uint8_t *area, size_t narea);
+uint8_t vwrite_release(vwrite_state *w, vwrite_file *files, vwrite_len nfiles, const uint16_t *fat, vwrite_len nfat, const uint8_t *area, vwrite_len narea,
+                       vwrite_end *end);
 
 /* The same, put off by nothing; reset: locks go too. */
-vwrite_end vwrite_release_all(vwrite_state *w, vwrite_file *files, size_t nfiles, bool reset, const uint16_t *fat, size_t nfat, const uint8_t *area,
-                              size_t narea);
+uint8_t vwrite_release_all(vwrite_state *w, vwrite_file *files, vwrite_len nfiles, bool reset, const uint16_t *fat, vwrite_len nfat, const uint8_t *area,
+                           vwrite_len narea, vwrite_end *end);
 
 /* A bus reset: vdisk's releases the session first; vwrite's only puts in force the mode that was asked for. */
-vwrite_end vdisk_on_bus_reset(vwrite_state *w, vwrite_file *files, size_t nfiles, const uint16_t *fat, size_t nfat, const uint8_t *area,
-                              size_t narea);
+uint8_t vdisk_on_bus_reset(vwrite_state *w, vwrite_file *files, vwrite_len nfiles, const uint16_t *fat, vwrite_len nfat, const uint8_t *area,
+                           vwrite_len narea, vwrite_end *end);
 
 void vwrite_on_bus_reset(vwrite_state *w);
 
@@ -241,11 +213,11 @@ bool vwrite_read_only(const vwrite_state *w);
 
 bool vwrite_read_only_pending(const vwrite_state *w);
 
-/* A file that is handed to deletion, if there is one. Report it gone once it is deleted, or was found to be another file: 21 for a row that isn't
- * in the table or whose file isn't handed. */
-vwrite_handed vwrite_find_handed(const vwrite_file *files, size_t nfiles);
+/* A file that is handed to deletion, if there is one; 10 where refused. Report it gone once it is deleted, or was found to be another file: 21 for a row
+ * that isn't in the table or whose file isn't handed. */
+uint8_t vwrite_find_handed(const vwrite_file *files, vwrite_len nfiles, vwrite_handed *handed);
 
-uint8_t vwrite_report_gone(vwrite_file *files, size_t nfiles, size_t row);
+uint8_t vwrite_report_gone(vwrite_file *files, vwrite_len nfiles, vwrite_len row);
 
 /* Why a file is handed, or what is missing, for programs that tell it. Of one file: what the calls held of it since the start, or since the completed
  * release that last left it unmarked. A file is handed only if it was turned, and zeroed or named. It has moved where a staged sector named it at its
@@ -259,23 +231,117 @@ typedef struct {
     bool gone;
 } vwrite_reason;
 
-typedef struct {
-    bool named;
-} vwrite_named_answer;
-
 /* Does a staged sector name the file with that start and size, as the medium stands. */
-vwrite_named_answer vwrite_named(const vwrite_state *w, const uint16_t *fat, size_t nfat, const uint8_t *area, size_t narea, uint16_t start,
-                                 uint32_t size);
+bool vwrite_named(const vwrite_state *w, const uint16_t *fat, vwrite_len nfat, const uint8_t *area, vwrite_len narea, uint16_t start, uint32_t size);
 
 /* After vwrite_write, which answered number. id, slot, start and size are the file's. named: whether a staged sector named the file before the call
  * (vwrite_named). staged: whether the write staged its sector, which is where the state's ver is another than before. */
-vwrite_reason vwrite_after_write(vwrite_reason r, uint16_t id, uint16_t slot, uint16_t start, uint32_t size, uint8_t number, uint32_t lba,
-                                 const uint8_t *shown, size_t nshown, const uint8_t *written, size_t nwritten, bool named, bool staged);
+void vwrite_after_write(vwrite_reason *r, uint16_t id, uint16_t slot, uint16_t start, uint32_t size, uint8_t number, uint32_t lba, const uint8_t *shown,
+                        vwrite_len nshown, const uint8_t *written, vwrite_len nwritten, bool named, bool staged);
 
-/* After a call that answered a vwrite_end: its ended, the file's id then, and whether a staged sector named the file before the call. */
-vwrite_reason vwrite_after_end(vwrite_reason r, uint8_t ended, uint16_t id, bool named);
+/* After a call that wrote a vwrite_end: its ended, the file's id then, and whether a staged sector named the file before the call. */
+void vwrite_after_end(vwrite_reason *r, uint8_t ended, uint16_t id, bool named);
 
 /* After vwrite_report_gone of a row, which answered number; the file is in row j. */
-vwrite_reason vwrite_after_gone(vwrite_reason r, uint8_t number, size_t row, size_t j);
+void vwrite_after_gone(vwrite_reason *r, uint8_t number, vwrite_len row, vwrite_len j);
+
+#ifdef __cplusplus
+}
+#endif
+
+/* A machine, or a changed copy of this header, on which a size or an offset is another than the library's is refused when it is compiled. */
+#if defined(__cplusplus)
+#define VWRITE_STATIC(holds, name) static_assert(holds, #name)
+#elif defined(__STDC_VERSION__) && __STDC_VERSION__ >= 201112L
+#define VWRITE_STATIC(holds, name) _Static_assert(holds, #name)
+#else
+#define VWRITE_STATIC(holds, name) typedef char vwrite_static_##name[(holds) ? 1 : -1]
+#endif
+#define VWRITE_SIZE(type, size, align) \
+    struct vwrite_align_##type { \
+        char c; \
+        type t; \
+    }; \
+    VWRITE_STATIC(sizeof(type) == (size) && offsetof(struct vwrite_align_##type, t) == (align), size_of_##type)
+#define VWRITE_AT(type, field, offset) VWRITE_STATIC(offsetof(type, field) == (offset), type##_##field)
+
+VWRITE_SIZE(bool, 1, 1);
+VWRITE_SIZE(vwrite_len, 8, 8);
+VWRITE_SIZE(vwrite_file, 16, 4);
+VWRITE_AT(vwrite_file, id, 0);
+VWRITE_AT(vwrite_file, slot, 2);
+VWRITE_AT(vwrite_file, vstart, 4);
+VWRITE_AT(vwrite_file, src, 6);
+VWRITE_AT(vwrite_file, ssize, 8);
+VWRITE_AT(vwrite_file, vsize, 12);
+VWRITE_SIZE(vwrite_rec, 34, 2);
+VWRITE_AT(vwrite_rec, slot, 0);
+VWRITE_AT(vwrite_rec, e, 2);
+VWRITE_SIZE(vwrite_pair_place, 4, 2);
+VWRITE_AT(vwrite_pair_place, c, 0);
+VWRITE_AT(vwrite_pair_place, v, 2);
+VWRITE_SIZE(vwrite_st, 32, 8);
+VWRITE_AT(vwrite_st, c, 0);
+VWRITE_AT(vwrite_st, sealed, 2);
+VWRITE_AT(vwrite_st, ro, 3);
+VWRITE_AT(vwrite_st, map, 8);
+VWRITE_AT(vwrite_st, blk, 16);
+VWRITE_SIZE(vwrite_done, 12, 4);
+VWRITE_AT(vwrite_done, slot, 0);
+VWRITE_AT(vwrite_done, start, 2);
+VWRITE_AT(vwrite_done, size, 4);
+VWRITE_AT(vwrite_done, ver, 8);
+VWRITE_SIZE(vwrite_stats, 24, 4);
+VWRITE_AT(vwrite_stats, ok, 0);
+VWRITE_AT(vwrite_stats, refused, 4);
+VWRITE_AT(vwrite_stats, busy, 8);
+VWRITE_AT(vwrite_stats, last_refused, 12);
+VWRITE_AT(vwrite_stats, deleted, 16);
+VWRITE_AT(vwrite_stats, fw_ok, 18);
+VWRITE_AT(vwrite_stats, fw_bad, 20);
+VWRITE_SIZE(vwrite_state, 1512, 8);
+VWRITE_AT(vwrite_state, rw, 0);
+VWRITE_AT(vwrite_state, want_rw, 1);
+VWRITE_AT(vwrite_state, boot, 2);
+VWRITE_AT(vwrite_state, fat1, 4);
+VWRITE_AT(vwrite_state, rec, 8);
+VWRITE_AT(vwrite_state, pair, 348);
+VWRITE_AT(vwrite_state, st, 512);
+VWRITE_AT(vwrite_state, session, 1408);
+VWRITE_AT(vwrite_state, locks, 1409);
+VWRITE_AT(vwrite_state, last, 1416);
+VWRITE_AT(vwrite_state, now_ms, 1424);
+VWRITE_AT(vwrite_state, staging, 1432);
+VWRITE_AT(vwrite_state, stage_t, 1440);
+VWRITE_AT(vwrite_state, hint, 1448);
+VWRITE_AT(vwrite_state, err, 1452);
+VWRITE_AT(vwrite_state, fw, 1453);
+VWRITE_AT(vwrite_state, done, 1456);
+VWRITE_AT(vwrite_state, ver, 1468);
+VWRITE_AT(vwrite_state, end_at, 1472);
+VWRITE_AT(vwrite_state, parks, 1480);
+VWRITE_AT(vwrite_state, purged, 1481);
+VWRITE_AT(vwrite_state, purge, 1482);
+VWRITE_AT(vwrite_state, n, 1484);
+VWRITE_AT(vwrite_state, first, 1508);
+VWRITE_SIZE(vwrite_own, 16, 8);
+VWRITE_AT(vwrite_own, owner, 0);
+VWRITE_AT(vwrite_own, row, 8);
+VWRITE_SIZE(vwrite_end, 2, 1);
+VWRITE_AT(vwrite_end, ended, 0);
+VWRITE_AT(vwrite_end, had, 1);
+VWRITE_SIZE(vwrite_handed, 16, 8);
+VWRITE_AT(vwrite_handed, found, 0);
+VWRITE_AT(vwrite_handed, row, 8);
+VWRITE_SIZE(vwrite_reason, 5, 1);
+VWRITE_AT(vwrite_reason, turned, 0);
+VWRITE_AT(vwrite_reason, zeroed, 1);
+VWRITE_AT(vwrite_reason, moved, 2);
+VWRITE_AT(vwrite_reason, named, 3);
+VWRITE_AT(vwrite_reason, gone, 4);
+
+#undef VWRITE_AT
+#undef VWRITE_SIZE
+#undef VWRITE_STATIC
 
 #endif

@@ -5,6 +5,8 @@ use bindings::calls::*;
 use bindings::{File, Sector, State, CB, DATA_START, SPC};
 use std::arch::x86_64::{__rdtscp, _mm_lfence};
 
+mod sessions;
+
 /// What every run of a kind starts from.
 struct Start {
     w: State,
@@ -77,23 +79,7 @@ fn both(name: &str, s: &mut Start, runs: usize, rust: &mut dyn FnMut(), ours: &m
 }
 
 fn ours_write(s: &mut Start, lba: u32, g: &Sector, d: &Sector) -> u8 {
-    unsafe {
-        vwrite_write(
-            &mut s.w,
-            s.files.as_mut_ptr(),
-            s.files.len(),
-            lba,
-            g.as_ptr(),
-            512,
-            d.as_ptr(),
-            512,
-            false,
-            s.fat.as_ptr(),
-            s.fat.len(),
-            s.area.as_mut_ptr(),
-            s.area.len(),
-        )
-    }
+    vwrite_write(&mut s.w, &mut s.files, lba, g, d, false, &s.fat, &mut s.area)
 }
 
 /// A write of a change to the sector that the drive shows.
@@ -171,11 +157,9 @@ fn update(s: &mut Start, size: u32) {
         assert_eq!(ours_write(s, c.lba, &g, &d), 0);
     }
     let start = clusters[0];
-    both("complete, 600,000 bytes", s, 2001, &mut || told(original::complete(start, size)), &mut |s| {
-        told(unsafe { vwrite_complete(&s.w, start, size) })
-    });
+    both("complete, 600,000 bytes", s, 2001, &mut || told(original::complete(start, size)), &mut |s| told(vwrite_complete(&s.w, start, size)));
     both("body check, 600,000 bytes", s, 101, &mut || told(original::body(start, size)), &mut |s| {
-        told(unsafe { vwrite_body_check(&s.w, s.fat.as_ptr(), s.fat.len(), s.area.as_ptr(), s.area.len(), start, size) })
+        told(vwrite_body_check(&s.w, &s.fat, &s.area, start, size))
     });
 }
 
@@ -183,9 +167,7 @@ fn crc(s: &mut Start) {
     for n in [128, 512, 600_000] {
         let bytes = vec![0x5A; n];
         let runs = if n > 1000 { 101 } else { 2001 };
-        both(&format!("CRC of {n} bytes"), s, runs, &mut || told(original::crc16(7, &bytes)), &mut |_| {
-            told(unsafe { vwrite_crc16(7, bytes.as_ptr(), n) })
-        });
+        both(&format!("CRC of {n} bytes"), s, runs, &mut || told(original::crc16(7, &bytes)), &mut |_| told(vwrite_crc16(7, &bytes)));
     }
 }
 
@@ -219,6 +201,7 @@ pub fn run() {
             write("refused: part of a live file", &mut s, &hosts::entries(&[(f.vstart as u32, 0)], 1)[0], 13);
         }
         session(&mut s);
+        sessions::run(&mut s);
         if n == 50 {
             update(&mut s, 600_000);
             crc(&mut s);

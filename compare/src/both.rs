@@ -138,23 +138,8 @@ impl Both {
     }
 
     fn ours_written(&mut self, lba: u32, shown: &[u8], written: &[u8], busy: bool) -> u8 {
-        unsafe {
-            vwrite_write(
-                &mut self.w,
-                self.files.as_mut_ptr(),
-                self.files.len(),
-                lba,
-                shown.as_ptr(),
-                shown.len(),
-                written.as_ptr(),
-                written.len(),
-                busy,
-                self.fat.as_ptr(),
-                self.lent.0,
-                self.area.as_mut_ptr(),
-                self.lent.1,
-            )
-        }
+        let (fat, area) = (&self.fat[..self.lent.0], &mut self.area[..self.lent.1]);
+        vwrite_write(&mut self.w, &mut self.files, lba, shown, written, busy, fat, area)
     }
 
     /// What the Rust has no answer for: a sector that isn't 512 bytes (1), and more than 400 files (10). Nothing changes.
@@ -174,7 +159,7 @@ impl Both {
     pub fn staged_read(&mut self, c: u32, s: u32) {
         self.last = format!("staged_read {c} {s}");
         let (mut a, mut b) = ([0x5A; 512], [0x5A; 512]);
-        let r = unsafe { vwrite_staged_read(&self.w, self.fat.as_ptr(), self.lent.0, self.area.as_ptr(), self.lent.1, c, s, b.as_mut_ptr(), 512) };
+        let r = vwrite_staged_read(&self.w, &self.fat[..self.lent.0], &self.area[..self.lent.1], c, s, &mut b);
         self.counts.add("staged_read", r.no);
         if s >= 64 {
             self.equal("the answer", Staged { no: 2, staged: false }, r);
@@ -188,7 +173,7 @@ impl Both {
 
     pub fn pair(&mut self, c: u32) {
         self.last = format!("pair {c}");
-        let r = unsafe { vwrite_pair(&self.w, c) };
+        let r = vwrite_pair(&self.w, c);
         self.counts.add("pair", 0);
         let v = original::pair(c);
         self.equal("the answer", PairAnswer { found: v.is_some(), v: v.unwrap_or(0) }, r);
@@ -196,7 +181,7 @@ impl Both {
 
     pub fn root_rec(&mut self, slot: usize) {
         self.last = format!("root_rec {slot}");
-        let r = unsafe { vwrite_root_rec(&self.w, slot) };
+        let r = vwrite_root_rec(&self.w, slot);
         self.counts.add("root_rec", 0);
         let e = original::root_rec(slot);
         self.equal("the answer", RootRecord { found: e.is_some(), e: e.unwrap_or([0; 32]) }, r);
@@ -204,7 +189,7 @@ impl Both {
 
     pub fn queries(&mut self, mounted: bool) {
         self.last = format!("queries, mounted {mounted}");
-        let ours = unsafe { (vwrite_boot_state(&self.w), vwrite_fat1(&self.w), vwrite_frozen(&self.w, mounted)) };
+        let ours = (vwrite_boot_state(&self.w), vwrite_fat1(&self.w), vwrite_frozen(&self.w, mounted));
         self.equal("boot_state, fat1, frozen", (original::boot_state(), original::fat1(), original::frozen(mounted)), ours);
         for call in ["boot_state", "fat1", "frozen"] {
             self.counts.add(call, 0);
@@ -213,7 +198,7 @@ impl Both {
 
     pub fn complete(&mut self, start: u32, size: u32) {
         self.last = format!("complete {start} {size}");
-        let r = unsafe { vwrite_complete(&self.w, start, size) };
+        let r = vwrite_complete(&self.w, start, size);
         self.counts.add("complete", 0);
         let rust = original::complete(start, size);
         let (slots, n) = rust.unwrap_or(([0; bindings::NST], 0));
@@ -222,19 +207,19 @@ impl Both {
 
     pub fn layout(&mut self, c: u32, size: u32) {
         self.last = format!("owner {c}, nclus {size}");
-        let ours = unsafe { vwrite_owner(self.files.as_ptr(), self.files.len(), self.w.first, c) };
+        let ours = vwrite_owner(&self.files, self.w.first, c);
         let (owner, row) = original::owner(c);
         self.equal("owner", Own { no: 0, owner, row }, ours);
         let kind = original::dir_kind(c);
-        self.equal("dir_kind", Dir { found: kind.is_some(), kind: kind.unwrap_or(0) as u16 }, unsafe { vwrite_dir_kind(c) });
-        self.equal("nclus", original::nclus(size), unsafe { vwrite_nclus(size) });
+        self.equal("dir_kind", Dir { found: kind.is_some(), kind: kind.unwrap_or(0) as u16 }, vwrite_dir_kind(c));
+        self.equal("nclus", original::nclus(size), vwrite_nclus(size));
         for call in ["owner", "dir_kind", "nclus"] {
             self.counts.add(call, 0);
         }
     }
     pub fn crc16(&mut self, c: u16, bytes: &[u8]) {
         self.last = format!("crc16 {c} of {} bytes", bytes.len());
-        let ours = unsafe { vwrite_crc16(c, bytes.as_ptr(), bytes.len()) };
+        let ours = vwrite_crc16(c, bytes);
         self.counts.add("crc16", 0);
         self.equal("the answer", original::crc16(c, bytes), ours);
     }

@@ -154,9 +154,13 @@ fn recording(both: &mut Both, path: &std::path::Path) -> Result<(u64, u64), Stri
 
 /// Every recording of a folder: both sides equal, every recorded answer as given.
 pub fn recordings(folder: &str) {
-    let mut paths: Vec<_> =
-        fs::read_dir(folder).expect("the folder").map(|e| e.unwrap().path()).filter(|p| p.extension().is_some_and(|x| x == "txt")).collect();
+    let entries = fs::read_dir(folder).map(|d| d.filter_map(|e| e.ok()).map(|e| e.path()).collect::<Vec<_>>());
+    let mut paths: Vec<_> = entries.unwrap_or_default().into_iter().filter(|p| p.extension().is_some_and(|x| x == "txt")).collect();
     paths.sort();
+    if paths.is_empty() {
+        println!("{folder} has no recordings");
+        exit(2);
+    }
     let mut both = Both::new();
     let (mut calls, mut checked) = (0, 0);
     for path in &paths {

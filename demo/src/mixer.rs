@@ -15,6 +15,7 @@ pub struct Mixer {
     area: Vec<u8>,
     since: Instant,
     record: Box<dyn Write + Send>,
+    calls: usize,
 }
 
 /// Ten files in the three directories, of one to three clusters.
@@ -34,20 +35,27 @@ fn table() -> Vec<File> {
 
 impl Mixer {
     pub fn new(record: Box<dyn Write + Send>) -> Mixer {
-        let mut m =
-            Mixer { w: State::new(FIRST), files: table(), fat: vec![0; 4_094], area: vec![0xFF; 4_092 * 4096], since: Instant::now(), record };
+        let mut m = Mixer {
+            w: State::new(FIRST),
+            files: table(),
+            fat: vec![0; 4_094],
+            area: vec![0xFF; 4_092 * 4096],
+            since: Instant::now(),
+            record,
+            calls: 0,
+        };
         let rows: String = m.files.iter().map(|f| format!(" {}:{}:{}:{}:{}:{}", f.id, f.slot, f.vstart, f.src, f.ssize, f.vsize)).collect();
         m.note(&format!("medium {} {} 255\nstart {FIRST}{rows}\nrw 1", m.fat.len(), m.area.len()));
-        unsafe {
-            assert_eq!(vwrite_start(&mut m.w, m.files.as_ptr(), m.files.len(), FIRST), 0, "the table is one that a start takes");
-            vwrite_set_read_only(&mut m.w, false);
-            vwrite_on_bus_reset(&mut m.w);
-        }
+        assert_eq!(vwrite_start(&mut m.w, &m.files, FIRST), 0, "the table is one that a start takes");
+        vwrite_set_read_only(&mut m.w, false);
+        vwrite_on_bus_reset(&mut m.w);
         m
     }
 
-    fn note(&mut self, line: &str) {
-        writeln!(self.record, "{line}").expect("the recording can be written");
+    /// Calls, one a line, into the recording.
+    fn note(&mut self, lines: &str) {
+        self.calls += lines.lines().count();
+        writeln!(self.record, "{lines}").expect("the recording can be written");
     }
 
     pub fn shown(&self, lba: u32) -> Sector {
@@ -58,8 +66,7 @@ impl Mixer {
     fn tick(&mut self) {
         let clock = self.since.elapsed().as_millis() as u64;
         self.note(&format!("poll {clock} 0 1"));
-        let (files, n) = (self.files.as_mut_ptr(), self.files.len());
-        unsafe { vwrite_poll(&mut self.w, files, n, clock, true, self.fat.as_ptr(), self.fat.len(), self.area.as_ptr(), self.area.len()) };
+        vwrite_poll(&mut self.w, &mut self.files, clock, true, &self.fat, &self.area);
     }
 
     pub fn write(&mut self, lba: u32, written: &Sector) -> u8 {
@@ -76,26 +83,23 @@ impl Mixer {
             write!(line, "{}{i}:{:02x}", if k == 0 { '@' } else { ',' }, written[i]).unwrap();
         }
         self.note(&line);
-        let (files, n, fat, area) = (self.files.as_mut_ptr(), self.files.len(), self.fat.as_ptr(), self.area.as_mut_ptr());
-        unsafe {
-            vwrite_write(&mut self.w, files, n, lba, shown.as_ptr(), 512, written.as_ptr(), 512, false, fat, self.fat.len(), area, self.area.len())
-        }
+        vwrite_write(&mut self.w, &mut self.files, lba, &shown, written, false, &self.fat, &mut self.area)
     }
 
     /// The computer is gone: the session ends, and the files that are handed are told.
     pub fn ends(&mut self) -> Vec<String> {
         self.note("release");
-        let (files, n, fat, area) = (self.files.as_mut_ptr(), self.files.len(), &self.fat, &self.area);
-        let end = unsafe { vwrite_release(&mut self.w, files, n, fat.as_ptr(), fat.len(), area.as_ptr(), area.len()) };
+        let end = vwrite_release(&mut self.w, &mut self.files, &self.fat, &self.area);
         if end.ended == 2 {
             // Put off for an update that nobody decides here: the end is due after 1,500 ms.
             let clock = self.w.now_ms + 1_500;
-            unsafe { vwrite_poll(&mut self.w, files, n, clock, false, fat.as_ptr(), fat.len(), area.as_ptr(), area.len()) };
+            vwrite_poll(&mut self.w, &mut self.files, clock, false, &self.fat, &self.area);
             self.note(&format!("poll {clock} 0 0"));
         }
         self.note("handed");
+        writeln!(self.record, "end {}", self.calls).expect("the recording can be written");
         self.record.flush().expect("the recording can be written");
-        let handed = |f: &&File| unsafe { vwrite_find_handed(*f, 1).found };
+        let handed = |f: &&File| vwrite_find_handed(std::slice::from_ref(*f)).found;
         self.files.iter().filter(handed).map(|f| String::from_utf8_lossy(&short_name(f.id)).into_owned()).collect()
     }
 }

@@ -68,7 +68,7 @@ impl Drive<'_> {
         b[0x18..0x1C].copy_from_slice(&[63, 0, 255, 0]);
         b[0x20..0x24].copy_from_slice(&TOTAL.to_le_bytes());
         (b[0x24], b[0x26]) = (0x80, 0x29);
-        b[0x25] = unsafe { vwrite_boot_state(self.w) };
+        b[0x25] = vwrite_boot_state(self.w);
         b[0x27..0x2B].copy_from_slice(b"\x16\x11\x26\x20");
         b[0x2B..0x36].copy_from_slice(b"MIXER      ");
         b[0x36..0x3E].copy_from_slice(b"FAT16   ");
@@ -77,11 +77,11 @@ impl Drive<'_> {
     }
 
     fn entry(&self, c: u32) -> u16 {
-        let pair = unsafe { vwrite_pair(self.w, c) };
-        let own = unsafe { vwrite_owner(self.files.as_ptr(), self.files.len(), self.w.first, c) };
+        let pair = vwrite_pair(self.w, c);
+        let own = vwrite_owner(self.files, self.w.first, c);
         match c {
             0 => 0xFFF8,
-            1 => unsafe { vwrite_fat1(self.w) },
+            1 => vwrite_fat1(self.w),
             2..=7 => 0xFFFF,
             _ if pair.found => pair.v,
             _ if own.owner == 2 && self.files[own.row].id & 0x2000 == 0 => {
@@ -114,7 +114,7 @@ impl Drive<'_> {
                 2 => slot(b"INFO       ", 0x10, 2, 0),
                 3 => slot(b"DEBUG      ", 0x10, 3, 0),
                 k @ 4..=6 => slot(DIRECTORIES[k - 4], 0x10, k as u16, 0),
-                k => unsafe { vwrite_root_rec(self.w, k).e },
+                k => vwrite_root_rec(self.w, k).e,
             };
             b[i * 32..i * 32 + 32].copy_from_slice(&e);
         }
@@ -148,9 +148,8 @@ impl Drive<'_> {
             }
             return b;
         }
-        let staged =
-            unsafe { vwrite_staged_read(self.w, self.fat.as_ptr(), self.fat.len(), self.area.as_ptr(), self.area.len(), c, s, b.as_mut_ptr(), 512) };
-        let own = unsafe { vwrite_owner(self.files.as_ptr(), self.files.len(), self.w.first, c) };
+        let staged = vwrite_staged_read(self.w, self.fat, self.area, c, s, &mut b);
+        let own = vwrite_owner(self.files, self.w.first, c);
         if !staged.staged && own.owner == 2 && self.files[own.row].id & 0x6000 == 0 {
             let f = &self.files[own.row];
             let from = (c - f.vstart as u32) * CB + s * 512;

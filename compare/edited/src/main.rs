@@ -5,14 +5,14 @@ use std::path::{Path, PathBuf};
 use std::process::{exit, Command, Stdio};
 use std::sync::atomic::{AtomicUsize, Ordering::Relaxed};
 use std::sync::Mutex;
-use std::time::{Duration, Instant};
+use std::time::Duration;
 use std::{env, fs, thread};
 
 const USAGE: &str =
     "edits [--list] [--from N] [WORD]   every edit, or those from the N-th on, or whose name begins with WORD; --list only names them";
 const SCENARIOS: &str = "1500";
-/// A run that takes longer hangs.
-const LIMIT: Duration = Duration::from_secs(60);
+/// A run that takes so many ticks of a processor, a minute of it, hangs. Time that other programs take doesn't count.
+const LIMIT: u64 = 6_000;
 
 #[derive(Clone, Copy, PartialEq, Eq)]
 enum Outcome {
@@ -34,8 +34,15 @@ fn texts() -> [String; 2] {
 /// Lines `NAME | REASON`.
 fn reasons() -> BTreeMap<String, String> {
     let text = fs::read_to_string(folder().join("equivalent.txt")).unwrap_or_default();
-    let line = |l: &str| l.split_once(" | ").map(|(a, b)| (a.to_string(), b.to_string()));
+    let line = |l: &str| l.rsplit_once(" | ").map(|(a, b)| (a.to_string(), b.to_string()));
     text.lines().filter(|l| !l.starts_with('#')).filter_map(line).collect()
+}
+
+/// Ticks of a processor that a running program has taken: fields 14 and 15 of its line, counted behind its name.
+fn ticks(pid: u32) -> u64 {
+    let line = fs::read_to_string(format!("/proc/{pid}/stat")).unwrap_or_default();
+    let fields: Vec<&str> = line.rsplit(')').next().unwrap_or_default().split_whitespace().collect();
+    fields.iter().skip(11).take(2).filter_map(|f| f.parse::<u64>().ok()).sum()
 }
 
 /// Does the comparison end with a difference; none where the edit doesn't build.
@@ -58,12 +65,11 @@ fn notices(n: usize, worker: usize) -> Option<bool> {
         .stderr(Stdio::null())
         .spawn()
         .expect("compare");
-    let since = Instant::now();
     loop {
         if let Some(status) = run.try_wait().expect("compare") {
             return Some(!status.success());
         }
-        if since.elapsed() > LIMIT {
+        if ticks(run.id()) > LIMIT {
             run.kill().expect("compare");
             run.wait().expect("compare");
             return Some(true);

@@ -11,7 +11,7 @@ impl Both {
 
     pub fn body(&mut self, start: u32, size: u32) -> Body {
         self.last = format!("body check {start} {size}");
-        let r = unsafe { vwrite_body_check(&self.w, self.fat.as_ptr(), self.lent.0, self.area.as_ptr(), self.lent.1, start, size) };
+        let r = vwrite_body_check(&self.w, &self.fat[..self.lent.0], &self.area[..self.lent.1], start, size);
         self.counts.add("body check", r.no);
         let rust = if size < 128 {
             Body { no: 11, valid: false }
@@ -26,7 +26,7 @@ impl Both {
     /// A start; `acceptable` is what document 01 says of the table.
     pub fn start(&mut self, files: &[File], first: u32, acceptable: bool) -> u8 {
         self.last = format!("start {first} with {} files", files.len());
-        let n = unsafe { vwrite_start(&mut self.w, files.as_ptr(), files.len(), first) };
+        let n = vwrite_start(&mut self.w, files, first);
         self.counts.add("start", n);
         self.equal("the number", if acceptable { 0 } else { 10 }, n);
         if n == 0 {
@@ -64,8 +64,8 @@ impl Both {
         original::take_stale();
         original::poll(clock, mounted);
         numbered::poll(clock, mounted);
-        let (fat, area) = (self.fat.as_ptr(), self.area.as_ptr());
-        let r = unsafe { vwrite_poll(&mut self.w, self.files.as_mut_ptr(), self.files.len(), clock, mounted, fat, self.lent.0, area, self.lent.1) };
+        let (fat, area) = (&self.fat[..self.lent.0], &self.area[..self.lent.1]);
+        let r = vwrite_poll(&mut self.w, &mut self.files, clock, mounted, fat, area);
         self.ended("poll", r, true, None)
     }
 
@@ -73,8 +73,8 @@ impl Both {
         self.last = "release".into();
         let had = original::release();
         numbered::release();
-        let (fat, area) = (self.fat.as_ptr(), self.area.as_ptr());
-        let r = unsafe { vwrite_release(&mut self.w, self.files.as_mut_ptr(), self.files.len(), fat, self.lent.0, area, self.lent.1) };
+        let (fat, area) = (&self.fat[..self.lent.0], &self.area[..self.lent.1]);
+        let r = vwrite_release(&mut self.w, &mut self.files, fat, area);
         self.ended("release", r, false, Some(had))
     }
 
@@ -82,8 +82,8 @@ impl Both {
         self.last = format!("release_all {reset}");
         let had = original::release_all(reset);
         numbered::release_all(reset);
-        let (fat, area) = (self.fat.as_ptr(), self.area.as_ptr());
-        let r = unsafe { vwrite_release_all(&mut self.w, self.files.as_mut_ptr(), self.files.len(), reset, fat, self.lent.0, area, self.lent.1) };
+        let (fat, area) = (&self.fat[..self.lent.0], &self.area[..self.lent.1]);
+        let r = vwrite_release_all(&mut self.w, &mut self.files, reset, fat, area);
         self.ended("release_all", r, false, Some(had))
     }
 
@@ -92,8 +92,8 @@ impl Both {
         original::take_stale();
         original::vdisk_on_bus_reset();
         numbered::vdisk_on_bus_reset();
-        let (fat, area) = (self.fat.as_ptr(), self.area.as_ptr());
-        let r = unsafe { vdisk_on_bus_reset(&mut self.w, self.files.as_mut_ptr(), self.files.len(), fat, self.lent.0, area, self.lent.1) };
+        let (fat, area) = (&self.fat[..self.lent.0], &self.area[..self.lent.1]);
+        let r = vdisk_on_bus_reset(&mut self.w, &mut self.files, fat, area);
         self.ended("vdisk on_bus_reset", r, true, None)
     }
 
@@ -101,7 +101,7 @@ impl Both {
         self.last = "vwrite's on_bus_reset".into();
         original::vwrite_on_bus_reset();
         numbered::vwrite_on_bus_reset();
-        unsafe { vwrite_on_bus_reset(&mut self.w) };
+        vwrite_on_bus_reset(&mut self.w);
         self.counts.add("vwrite on_bus_reset", 0);
         self.same();
     }
@@ -110,10 +110,10 @@ impl Both {
         self.last = format!("set_read_only {on}");
         original::set_read_only(on);
         numbered::set_read_only(on);
-        unsafe { vwrite_set_read_only(&mut self.w, on) };
+        vwrite_set_read_only(&mut self.w, on);
         self.counts.add("set_read_only", 0);
         self.same();
-        let ours = unsafe { (vwrite_read_only(&self.w), vwrite_read_only_pending(&self.w)) };
+        let ours = (vwrite_read_only(&self.w), vwrite_read_only_pending(&self.w));
         self.equal("read_only, pending", (original::read_only(), original::read_only_pending()), ours);
         self.counts.add("read_only", 0);
         self.counts.add("read_only_pending", 0);
@@ -121,7 +121,7 @@ impl Both {
 
     pub fn gone(&mut self, row: usize) -> u8 {
         self.last = format!("report gone {row}");
-        let n = unsafe { vwrite_report_gone(self.files.as_mut_ptr(), self.files.len(), row) };
+        let n = vwrite_report_gone(&mut self.files, row);
         self.counts.add("report_gone", n);
         let handed = original::table().get(row).is_some_and(|f| f.id & 0x7000 == 0x3000);
         self.equal("the number", if handed { 0 } else { 21 }, n);
@@ -135,7 +135,7 @@ impl Both {
 
     pub fn find_handed(&mut self) -> Option<usize> {
         self.last = "find_handed".into();
-        let r = unsafe { vwrite_find_handed(self.files.as_ptr(), self.files.len()) };
+        let r = vwrite_find_handed(&self.files);
         self.counts.add("find_handed", r.no);
         self.equal("is one handed", original::handed().is_some(), r.found);
         if r.found {
@@ -148,20 +148,18 @@ impl Both {
     pub fn too_many(&mut self, files: &mut Vec<File>) {
         self.last = "calls with more than 400 files".into();
         let given = files.clone();
-        let (p, n, fat, area, lent) = (files.as_mut_ptr(), files.len(), self.fat.as_ptr(), self.area.as_ptr(), self.lent);
+        let (fat, area) = (&self.fat[..self.lent.0], &self.area[..self.lent.1]);
         let w = &mut self.w;
-        let numbers = unsafe {
-            [
-                vwrite_poll(w, p, n, 1, false, fat, lent.0, area, lent.1).no,
-                vwrite_release(w, p, n, fat, lent.0, area, lent.1).no,
-                vwrite_release_all(w, p, n, true, fat, lent.0, area, lent.1).no,
-                vdisk_on_bus_reset(w, p, n, fat, lent.0, area, lent.1).no,
-                vwrite_report_gone(p, n, 0),
-                vwrite_find_handed(p, n).no,
-                vwrite_owner(p, n, 7, 9).no,
-                vwrite_start(w, p, n, 7),
-            ]
-        };
+        let numbers = [
+            vwrite_poll(w, files, 1, false, fat, area).no,
+            vwrite_release(w, files, fat, area).no,
+            vwrite_release_all(w, files, true, fat, area).no,
+            vdisk_on_bus_reset(w, files, fat, area).no,
+            vwrite_report_gone(files, 0),
+            vwrite_find_handed(files).no,
+            vwrite_owner(files, 7, 9).no,
+            vwrite_start(w, files, 7),
+        ];
         self.equal("the numbers", [10; 8], numbers);
         self.equal("the given table", &given, &files.clone());
         self.counts.numbers[10] += 8;

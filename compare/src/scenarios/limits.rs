@@ -3,7 +3,7 @@ use super::{begin, reads};
 use crate::both::Both;
 use crate::hosts;
 use crate::rng::Rng;
-use bindings::{File, State, DATA_START, SPC, TOTAL};
+use bindings::{File, St, State, DATA_START, SPC, TOTAL};
 
 pub fn all(r: &mut Rng, both: &mut Both) {
     begin(r, both, 3);
@@ -14,6 +14,9 @@ pub fn all(r: &mut Rng, both: &mut Both) {
     let (w, files) = (both.w, both.files.clone());
     both.set_session(w, &files);
     places(both);
+    boot_bytes(both);
+    first_entries(both);
+    held_blocks(r, both);
     lengths(r, both);
     values(r, both);
     names(r, both);
@@ -44,6 +47,44 @@ fn places(both: &mut Both) {
         both.write(lba, &g, &d, false);
         both.write(lba, &g, &d, true);
     }
+}
+
+/// Each byte of the boot sector changed by itself: 0x25 alone may.
+fn boot_bytes(both: &mut Both) {
+    let shown = original::generated(0);
+    for i in 0..512 {
+        let mut written = shown;
+        written[i] ^= 1;
+        both.write(0, &shown, &written, false);
+    }
+}
+
+/// FAT[1] as it is told for every bit of the field, written or not.
+fn first_entries(both: &mut Both) {
+    let (w, files) = (both.w, both.files.clone());
+    for fat1 in (0..20).map(|i| 1 << i).chain([0, 1, 0xFFFE, 0xFFFF, 0x1_0000, 0x1_0001, 0x1_7FFF, 0x1_FFFF]) {
+        both.set_session(State { fat1, ..w }, &files);
+        both.queries(true);
+    }
+    both.set_session(w, &files);
+}
+
+/// Sectors of a staged cluster whose blocks are none, the first, the last and ones that the medium doesn't have.
+fn held_blocks(r: &mut Rng, both: &mut Both) {
+    let (w, files) = (both.w, both.files.clone());
+    let last = both.fat.len() as u16 - 1;
+    let mut st = w.st;
+    st[3] = St { c: 60_000, map: u64::MAX, blk: [0, 2, last, last + 1, 65_525, 3, 0, 2], ..St::default() };
+    both.set_session(State { st, ..w }, &files);
+    for s in 0..64 {
+        both.staged_read(60_000, s);
+    }
+    st[3].map = r.next();
+    both.set_session(State { st, ..w }, &files);
+    for s in 0..64 {
+        both.staged_read(60_000, s);
+    }
+    both.set_session(w, &files);
 }
 
 /// Both sides of every wait: the quiet time, in ticks and in `frozen`, and the time that an end is held back.

@@ -1,5 +1,12 @@
 //! `include/vwrite.h` for Rust: its structs, every field of which is compared by equality, and its calls.
 pub mod calls;
+mod linked;
+
+/// Sizes and offsets as the header has them.
+mod layout {
+    use std::mem::{align_of, offset_of, size_of};
+    include!(concat!(env!("OUT_DIR"), "/layout.rs"));
+}
 
 pub const NREC: usize = 10;
 pub const NPAIR: usize = 40;
