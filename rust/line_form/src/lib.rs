@@ -51,6 +51,8 @@ pub enum Call {
     Gone(usize),
     Handed,
     State,
+    /// The recording's end, and how many calls stand before it.
+    End(usize),
     /// A part of the state set directly, for corners that no call reaches.
     Set(Direct),
 }
@@ -165,9 +167,16 @@ fn direct(name: &str, a: &[&str]) -> Result<Option<Call>, String> {
     })))
 }
 
-/// The call of a line; none of a remark.
+/// A line's text: without the carriage return that some systems end a line with, and without the byte order mark that some begin a file with.
+pub fn text(line: &[u8]) -> Result<&str, String> {
+    let line = line.strip_suffix(b"\r").unwrap_or(line);
+    let line = line.strip_prefix(b"\xEF\xBB\xBF").unwrap_or(line);
+    std::str::from_utf8(line).map_err(|_| "the line isn't text".to_string())
+}
+
+/// The call of a line; none of a remark or a blank line.
 pub fn parse(line: &str) -> Result<Option<Call>, String> {
-    if line.starts_with('#') {
+    if line.starts_with('#') || line.trim().is_empty() {
         return Ok(None);
     }
     let mut words = line.split(' ');
@@ -197,6 +206,7 @@ pub fn parse(line: &str) -> Result<Option<Call>, String> {
         ("gone", [j]) => Call::Gone(num(j, "row")?),
         ("handed", []) => Call::Handed,
         ("state", []) => Call::State,
+        ("end", [n]) => Call::End(num(n, "number of calls")?),
         _ => return direct(name, &a),
     }))
 }

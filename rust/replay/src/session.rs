@@ -9,6 +9,8 @@ pub struct Session {
     pub fat: Vec<u16>,
     pub area: Vec<u8>,
     pub lent: (usize, usize),
+    /// A start of the recording was taken.
+    pub started: bool,
 }
 
 /// What a call answers.
@@ -22,8 +24,9 @@ pub enum Answer {
 impl Session {
     /// Before a recording has a table: a start with an empty one, of a state of zeros.
     pub fn new() -> Session {
-        let mut fresh = Session { w: State::new(0), files: vec![], fat: vec![], area: vec![], lent: (0, 0) };
+        let mut fresh = Session { w: State::new(0), files: vec![], fat: vec![], area: vec![], lent: (0, 0), started: false };
         assert_eq!(fresh.start(7, vec![]), 0, "a start takes an empty table");
+        fresh.started = false;
         fresh
     }
 
@@ -33,50 +36,46 @@ impl Session {
     }
 
     pub fn is_handed(&self, j: usize) -> bool {
-        unsafe { vwrite_find_handed(&self.files[j], 1).found }
+        vwrite_find_handed(&self.files[j..=j]).found
     }
 
     pub fn write(&mut self, lba: u32, shown: &Sector, written: &Sector, busy: bool) -> u8 {
-        let (files, n, fat, area) = (self.files.as_mut_ptr(), self.files.len(), self.fat.as_ptr(), self.area.as_mut_ptr());
-        unsafe { vwrite_write(&mut self.w, files, n, lba, shown.as_ptr(), 512, written.as_ptr(), 512, busy, fat, self.lent.0, area, self.lent.1) }
+        let (fat, area) = (&self.fat[..self.lent.0], &mut self.area[..self.lent.1]);
+        vwrite_write(&mut self.w, &mut self.files, lba, shown, written, busy, fat, area)
     }
 
     /// Does a sector staged in state `w` name the file, as the medium stands.
     pub fn names(&self, w: &State, f: &File) -> bool {
-        unsafe { vwrite_named(w, self.fat.as_ptr(), self.lent.0, self.area.as_ptr(), self.lent.1, f.vstart, f.vsize).named }
+        vwrite_named(w, &self.fat[..self.lent.0], &self.area[..self.lent.1], f.vstart, f.vsize)
     }
 
     fn start(&mut self, first: u32, files: Vec<File>) -> u8 {
-        let n = unsafe { vwrite_start(&mut self.w, files.as_ptr(), files.len(), first) };
+        let n = vwrite_start(&mut self.w, &files, first);
         if n == 0 {
             self.files = files;
+            self.started = true;
         }
         n
     }
 
     fn ends(&mut self, call: &Call) -> End {
-        let (w, files, n, fat, area, lent) =
-            (&mut self.w, self.files.as_mut_ptr(), self.files.len(), self.fat.as_ptr(), self.area.as_ptr(), self.lent);
-        unsafe {
-            match *call {
-                Call::Poll { clock, mounted } => vwrite_poll(w, files, n, clock, mounted, fat, lent.0, area, lent.1),
-                Call::ReleaseAll { reset } => vwrite_release_all(w, files, n, reset, fat, lent.0, area, lent.1),
-                Call::BusReset => vdisk_on_bus_reset(w, files, n, fat, lent.0, area, lent.1),
-                _ => vwrite_release(w, files, n, fat, lent.0, area, lent.1),
-            }
+        let (w, files, fat, area) = (&mut self.w, &mut self.files, &self.fat[..self.lent.0], &self.area[..self.lent.1]);
+        match *call {
+            Call::Poll { clock, mounted } => vwrite_poll(w, files, clock, mounted, fat, area),
+            Call::ReleaseAll { reset } => vwrite_release_all(w, files, reset, fat, area),
+            Call::BusReset => vdisk_on_bus_reset(w, files, fat, area),
+            _ => vwrite_release(w, files, fat, area),
         }
     }
 
     fn set_mode(&mut self, call: &Call) {
-        unsafe {
-            match *call {
-                Call::Rw(on) => {
-                    vwrite_set_read_only(&mut self.w, !on);
-                    vwrite_on_bus_reset(&mut self.w);
-                }
-                Call::SetReadOnly(on) => vwrite_set_read_only(&mut self.w, on),
-                _ => vwrite_on_bus_reset(&mut self.w),
+        match *call {
+            Call::Rw(on) => {
+                vwrite_set_read_only(&mut self.w, !on);
+                vwrite_on_bus_reset(&mut self.w);
             }
+            Call::SetReadOnly(on) => vwrite_set_read_only(&mut self.w, on),
+            _ => vwrite_on_bus_reset(&mut self.w),
         }
     }
 
@@ -122,7 +121,7 @@ impl Session {
         Ok(match call {
             Call::Write { lba, busy, ref shown, ref written } => Answer::Number(self.write(lba, shown, written, busy)),
             Call::Start { first, files } => Answer::Number(self.start(first, files)),
-            Call::Gone(row) => Answer::Number(unsafe { vwrite_report_gone(self.files.as_mut_ptr(), self.files.len(), row) }),
+            Call::Gone(row) => Answer::Number(vwrite_report_gone(&mut self.files, row)),
             Call::Poll { .. } | Call::Release | Call::ReleaseAll { .. } | Call::BusReset => Answer::Ended(self.ends(&call)),
             Call::Rw(_) | Call::SetReadOnly(_) | Call::ModeReset => {
                 self.set_mode(&call);
