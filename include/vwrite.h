@@ -8,6 +8,11 @@
  *
  * A call answers a number, or whether there is what was asked for; all else it writes through its last parameters, in every case, also a refused one.
  *
+ * The library has no data of its own, so calls that are lent different things may run at the same time, in any task or interrupt. Of what two calls share, at most
+ * one may write: a call that is lent a state, a table or a medium by a pointer that is not const must not be interrupted by another call on the same. No call
+ * waits, and none fails to end; what each takes of stack, code and time stands in docs/PERFORMANCE.md. In an interrupt the small ones are at home (the mode, the
+ * finder, reports, queries); a written sector is judged best in the task that the USB stack calls from.
+ *
  * Refusal numbers, 0 where there is none:
  *    1  a sector isn't 512 bytes                    11  body check of a size under 128
  *    2  a place past the drive's end                12  read-only
