@@ -17,7 +17,7 @@ pub struct Ending {
     calls: usize,
     over: bool,
     starts: usize,
-    /// The last line ended with no newline.
+    /// The last line is no remark and ended with no newline.
     open: bool,
     started: bool,
 }
@@ -29,7 +29,7 @@ impl Ending {
         if input.read_until(b'\n', &mut bytes)? == 0 {
             return Ok(None);
         }
-        self.open = bytes.pop_if(|b| *b == b'\n').is_none();
+        self.open = bytes.pop_if(|b| *b == b'\n').is_none() && !bytes.starts_with(b"#");
         self.line += 1;
         Ok(Some((self.line, bytes)))
     }
