@@ -7,12 +7,8 @@ use file_table::VF;
 use last_file::LastFile;
 use turn_file::is_unturned_at;
 use vdisk::ids::is_handed;
-ghost use mathlib.Core.List.{map};
 ghost use mathlib.Core.Path.{_≡_};
-ghost use lib.ListN.{getD};
-ghost use Rattle.files.specs.Files.{idOf, withIds};
-ghost use Rattle.turn_file.specs.TurnFile.{withRow};
-ghost use Rattle.row_walks.specs.Rows.{filesAsked, filesBy, handedRow};
+ghost use Rattle.row_walks.specs.Rows.{filesAsked, filesBy, handedRow, idAt, withId};
 
 // The first unturned file shown in directory `k` at slot `n`, with how many rows there are up to it; zeros where there is none.
 pub fn row_at(files: &[VF], k: u16, n: u32) -> LastFile
@@ -86,7 +82,7 @@ pub fn handed_row(files: &[VF]) -> usize
 
 // The id of row `i`, 0 where there is no such row.
 pub fn id_at(files: &[VF], i: usize) -> u16
-    ensures { λ r. ⌜ r ≡ getD (map idOf (now (files .entry))) i 0 ⌝ }
+    ensures { λ r. ⌜ r ≡ idAt (now (files .entry)) i ⌝ }
 {
     if files.len() <= i {
         return 0;
@@ -97,7 +93,7 @@ pub fn id_at(files: &[VF], i: usize) -> u16
 
 // The id of the `n`-th row set; none where `n` is 0 or past the end.
 pub fn put_id(files: &mut [VF], n: usize, id: u16)
-    ensures { λ _. ⌜ now (files .exit) ≡ withIds (now (files .entry)) (withRow (map idOf (now (files .entry))) n id) ⌝ }
+    ensures { λ _. ⌜ now (files .exit) ≡ withId (now (files .entry)) n id ⌝ }
 {
     if n == 0 {
         return;
