@@ -1,18 +1,26 @@
-# The calls that include/vwrite.h declares, in the form of retarget.awk: a line for each, its name, its result, its parameters.
+# The calls that include/vwrite.h declares: a line for each, its name, its result, its parameters. With -v kinds=1 in the form of retarget.awk, in which a type is how it passes; else in
+# that of signatures.awk, in which it is the C type.
 function kind(type) {
     if (type ~ /\*/) return "ptr"
-    sub(/^ +/, "", type)
     sub(/^const /, "", type)
-    sub(/ .*/, "", type)
-    if (type in kinds) return kinds[type]
+    if (type in passes) return passes[type]
     print "header: " type " is no type of a parameter or a result that is the same on every machine" > "/dev/stderr"
     failed = 1
     return "?"
 }
 
+# A declaration of a parameter without its name.
+function type_of(parameter) {
+    gsub(/^ +| +$/, "", parameter)
+    sub(/[A-Za-z0-9_]+$/, "", parameter)
+    gsub(/ +\*/, "*", parameter)
+    sub(/ +$/, "", parameter)
+    return parameter
+}
+
 BEGIN {
     split("bool i1 uint8_t i8 uint16_t i16 uint32_t i32 uint64_t i64 vwrite_len i64 void void", pairs, " ")
-    for (i = 1; i in pairs; i += 2) kinds[pairs[i]] = pairs[i + 1]
+    for (i = 1; i in pairs; i += 2) passes[pairs[i]] = pairs[i + 1]
 }
 { sub(/\r$/, "") }
 /^#/ || continued { continued = /\\$/; next }
@@ -32,10 +40,14 @@ END {
         sub(/.* /, "", name)
         sub(/^[^(]*\(/, "", piece)
         sub(/\) *$/, "", piece)
-        line = name " " kind(result)
+        line = name " " (kinds ? kind(result) : result)
         m = split(piece, parameters, ",")
-        for (j = 1; j <= m; j++) line = line " " kind(parameters[j])
-        print line
+        list = ""
+        for (j = 1; j <= m; j++) {
+            type = type_of(parameters[j])
+            list = list (list == "" ? "" : kinds ? " " : ",") (kinds ? kind(type) : type)
+        }
+        print line " " list
     }
     exit failed
 }

@@ -1,6 +1,6 @@
 # A module that `rattle build` made for x86-64, as text, for a 32-bit little-endian machine: awk -v layout=.. -v triple=.. -v exports=FILE -f retarget.awk.
-# It changes the two target lines, the attributes that name x86-64, and the results of 8 and 16 bits, which get zeroext, and stops at whatever it doesn't know.
-# What is exported goes to the file, a line for each call: its name, its result, its parameters.
+# It changes the two target lines, takes out the attributes that name x86-64, and gives zeroext to results of 8 and 16 bits. Every other line must be of a form that is known
+# and means the same on 32 bits; it stops at any other. What is exported goes to the file, a line for each call: its name, its result, its parameters.
 function stop(why) {
     print "retarget: " why ": " substr($0, 1, 200) > "/dev/stderr"
     failed = 1
@@ -10,13 +10,11 @@ function stop(why) {
 BEGIN {
     from_layout = "target datalayout = \"e-m:e-p270:32:32-p271:32:32-p272:64:64-i64:64-i128:128-f80:128-n8:16:32:64-S128\""
     from_triple = "target triple = \"x86_64-unknown-linux-gnu\""
-    # What a 32-bit machine would read otherwise, or a library would have to supply.
-    split("ptrtoint inttoptr atomic cmpxchg fence i128 addrspace asm va_arg thread_local float double x86 invoke byval sret", words, " ")
-    for (i in words) unknown = unknown (unknown ? "|" : "") words[i]
-    unknown = "(^|[^A-Za-z0-9_.])(" unknown ")([^A-Za-z0-9_.]|$)"
     known_result = "^(void|noundef (i8|i16|i32)|noundef zeroext i1)$"
     known_parameter = "^(ptr|i64|i32|i16|i8|i1)( (noundef|zeroext))* %[A-Za-z0-9_.]+$"
-    known_helper = "^llvm[.](memcpy|memmove|memset|lifetime|ctpop|ctlz|cttz|umin|umax|uadd|usub|umul|fshl|fshr|bswap|assume|trap|expect)[.a-z0-9]*$"
+    known_helper = "^llvm[.](memcpy|memmove|memset)[.a-z0-9]*$"
+    split("store load alloca call getelementptr br zext trunc ret icmp add mul xor sub switch unreachable urem udiv or lshr shl and", list, " ")
+    for (i in list) known_operation[list[i]] = 1
 }
 
 # A header of a function that is exported: its result, its name and its parameters.
@@ -44,6 +42,32 @@ function export(    head, result, name, rest, n, parameters, i, line) {
     sub(/define (dso_local )?noundef i16 /, "define noundef zeroext i16 ")
 }
 
+# No types but pointers, numbers of 1 to 64 bits and arrays of bytes; no names of types.
+function types(line,    word) {
+    gsub(/"[^"]*"/, "", line)
+    gsub(/[%@!][A-Za-z0-9_.]+/, "", line)
+    gsub(/\[[0-9]+ x i8\]/, "", line)
+    if (line ~ /(float|double|half|bfloat|fp128|x86|addrspace|volatile|atomic)/) stop("a form that is not known to mean the same on 32 bits")
+    if (line ~ /[<>{}]/) stop("a vector or a struct")
+    if (line ~ /\[[0-9]+ x/) stop("an array of something else than bytes")
+    while (match(line, /(^|[^A-Za-z0-9_.])i[0-9]+/)) {
+        word = substr(line, RSTART, RLENGTH)
+        sub(/^[^i]/, "", word)
+        if (word !~ /^i(1|8|16|32|64)$/) stop("a number of another width")
+        line = substr(line, RSTART + RLENGTH)
+    }
+}
+
+function operation(    line) {
+    line = $0
+    sub(/^ +(%[A-Za-z0-9_.]+ = )?/, "", line)
+    if (line ~ /^(i8|i16|i32|i64) -?[0-9]+, label %/ || line == "]") return
+    sub(/ .*/, "", line)
+    if (!(line in known_operation)) stop("an operation that is not known to mean the same on 32 bits")
+    if (line == "call" && $0 !~ /call [^@%]*@("[^"]*"|[A-Za-z0-9_.]+)\(/) stop("a call through a pointer")
+    types($0)
+}
+
 /^target datalayout = / {
     if ($0 != from_layout) stop("another data layout than that of x86-64")
     print "target datalayout = \"" layout "\""
@@ -56,22 +80,39 @@ function export(    head, result, name, rest, n, parameters, i, line) {
     targets++
     next
 }
-/^(;|source_filename)/ { print; next }
 /^attributes #/ {
     gsub(/ "target-cpu"="x86-64"/, "")
     gsub(/ "probe-stack"="inline-asm"/, "")
-    if ($0 ~ /"(target|tune|probe|stack)[a-z-]*"=/) stop("an attribute that may name a machine")
+    if ($0 ~ /"[^"]*"=/) stop("an attribute that may name a machine")
+    print
+    next
 }
-$0 ~ unknown { stop("a form that is not known to mean the same on 32 bits") }
 /^declare / {
     helper = $0
     sub(/^[^@]*@/, "", helper)
     sub(/\(.*/, "", helper)
     if (helper !~ known_helper) stop("a function from elsewhere")
+    print
+    next
 }
-/^define / && !/^define internal / { export() }
-/(^|[ =])(call|tail call) / && $0 !~ /@[^ (]*\(/ { stop("a call through a pointer") }
-{ print }
+/^define / {
+    if (!/^define internal /) export()
+    line = $0
+    sub(/ #[0-9]+ \{$/, "", line)
+    types(line)
+    print
+    next
+}
+/^  / {
+    operation()
+    print
+    next
+}
+/^$/ || /^;/ || /^source_filename = / || /^[A-Za-z0-9_.]+:/ || /^}$/ || /^![A-Za-z0-9_.]+ = / {
+    print
+    next
+}
+{ stop("a line of a form that is not known") }
 
 END {
     if (failed) exit 1
