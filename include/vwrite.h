@@ -4,14 +4,16 @@
  * The caller owns everything: the state, the table of files, the sectors, and the medium. A call reads and writes what it is lent only while it
  * runs, keeps no pointer, and allocates nothing. What is passed by a pointer that is not const may be written; no two of those may overlap each
  * other or anything that is read. A slice is a pointer and its number of elements, in that order; of 0 elements the pointer is not null and is aligned, and is
- * not read. Every number of elements is taken; a wrong one is a refusal. A pointer without a number beside it is to one element, is never null, and is aligned.
+ * not read. Every number of elements is taken: a wrong one is a refusal where the call has a number for it, and else what lies outside reads as if it were not there. A
+ * pointer without a number beside it is to one element, or to as many as its comment says; it is never null, and is aligned.
  *
- * A call answers a number, or whether there is what was asked for; all else it writes through its last parameters, in every case, also a refused one.
+ * A call answers a number, or whether there is what was asked for; all else it writes through its last parameters, in every case: false and zeros where it is
+ * refused or there is nothing.
  *
  * The library has no data of its own, so calls that are lent different things may run at the same time, in any task or interrupt. Of what two calls share, at most
  * one may write: a call that is lent a state, a table or a medium by a pointer that is not const must not be interrupted by another call on the same. No call
- * waits, and none fails to end; what each takes of stack, code and time stands in docs/PERFORMANCE.md. In an interrupt the small ones are at home (the mode, the
- * finder, reports, queries); a written sector is judged best in the task that the USB stack calls from.
+ * waits, and none fails to end; what each takes of stack, code and time stands in docs/PERFORMANCE.md. In an interrupt only the smallest are at home: the four of the
+ * mode, vwrite_boot_state, vwrite_fat1, vwrite_frozen, the finder and a report. A written sector is judged best in the task that the USB stack calls from.
  *
  * Refusal numbers, 0 where there is none:
  *    1  a sector isn't 512 bytes                    11  body check of a size under 128
@@ -148,7 +150,8 @@ typedef struct {
 uint8_t vwrite_write(vwrite_state *w, vwrite_file *files, vwrite_len nfiles, uint32_t lba, const uint8_t *shown, vwrite_len nshown, const uint8_t *written,
                      vwrite_len nwritten, bool busy, const uint16_t *fat, vwrite_len nfat, uint8_t *area, vwrite_len narea);
 
-/* Sector s of the staged cluster c into out, 512 bytes, which stays as it is where the cluster is not staged; whether it is. Answers 1 or 2 where refused. */
+/* Sector s of the staged cluster c into out, 512 bytes, zeros where the host wrote none or the medium that is lent has no such block. out stays as it is where the
+ * call is refused (1, 2) or the cluster is not staged; staged says which. */
 uint8_t vwrite_staged_read(const vwrite_state *w, const uint16_t *fat, vwrite_len nfat, const uint8_t *area, vwrite_len narea, uint32_t c, uint32_t s,
                            uint8_t *out, vwrite_len nout, bool *staged);
 
@@ -193,7 +196,8 @@ uint32_t vwrite_nclus(uint32_t size);
 uint8_t vwrite_start(vwrite_state *w, const vwrite_file *files, vwrite_len nfiles, uint32_t first);
 
 /* A tick of the clock, in milliseconds; it may go back. mounted: the computer has locked the medium. Ends a session whose held-back end is due or
- * that was quiet for a minute. It, and each call that may end the session, answers 10 where refused. */
+ * that was quiet for a minute. It, and each call that may end the session, answers 10 where refused. Lend the whole medium: a moved file is handed at a release only
+ * if a staged sector in it still names the file. */
 uint8_t vwrite_poll(vwrite_state *w, vwrite_file *files, vwrite_len nfiles, uint64_t clock, bool mounted, const uint16_t *fat, vwrite_len nfat,
                     const uint8_t *area, vwrite_len narea, vwrite_end *end);
 
@@ -218,16 +222,16 @@ bool vwrite_read_only(const vwrite_state *w);
 
 bool vwrite_read_only_pending(const vwrite_state *w);
 
-/* A file that is handed to deletion, if there is one; 10 where refused. Report it gone once it is deleted, or was found to be another file: 21 for a row
- * that isn't in the table or whose file isn't handed. */
+/* A file that is handed to deletion, any one, if there is one. Report it gone once it is deleted, or was found to be another file: 21 for a row that isn't in the
+ * table or whose file isn't handed. Both answer 10 for more than 400 files. */
 uint8_t vwrite_find_handed(const vwrite_file *files, vwrite_len nfiles, vwrite_handed *handed);
 
 uint8_t vwrite_report_gone(vwrite_file *files, vwrite_len nfiles, vwrite_len row);
 
-/* Why a file is handed, or what is missing, for programs that tell it. Of one file: what the calls held of it since the start, or since the completed
- * release that last left it unmarked. A file is handed only if it was turned, and zeroed or named. It has moved where a staged sector named it at its
- * turn or was staged after it, and is named where one still does at a release after that. All false at the start; then kept up after every call by
- * the three functions below. */
+/* Why a file is handed, or what is missing, for programs that tell it: what the calls held of one file since the start, or since the completed release that last
+ * left it unmarked. turned: its slot was turned. zeroed: its entries in a FAT sector all became free. moved: a staged sector named it when it was turned, or was staged
+ * and named it after that. named: a completed release after the move found it still named. gone: it was reported gone. A file is handed exactly if it was turned, and
+ * zeroed or named, and not reported gone. All false at the start; then kept up after every call by the three functions below. */
 typedef struct {
     bool turned;
     bool zeroed;
@@ -244,7 +248,7 @@ bool vwrite_named(const vwrite_state *w, const uint16_t *fat, vwrite_len nfat, c
 void vwrite_after_write(vwrite_reason *r, uint16_t id, uint16_t slot, uint16_t start, uint32_t size, uint8_t number, uint32_t lba, const uint8_t *shown,
                         vwrite_len nshown, const uint8_t *written, vwrite_len nwritten, bool named, bool staged);
 
-/* After a call that wrote a vwrite_end: its ended, the file's id then, and whether a staged sector named the file before the call. */
+/* After a call that wrote a vwrite_end: its ended, the file's id after the call, and whether a staged sector named the file before it. */
 void vwrite_after_end(vwrite_reason *r, uint8_t ended, uint16_t id, bool named);
 
 /* After vwrite_report_gone of a row, which answered number; the file is in row j. */
