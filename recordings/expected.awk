@@ -3,6 +3,7 @@ function put() {
     if (line) print line, number
     line = 0
 }
+{ sub(/\r$/, "") }
 /^#= / {
     for (i = 2; i <= NF; i++) if ($i ~ /^num=/) number = substr($i, 5)
     if (asks) {

@@ -7,6 +7,7 @@
 static char line[1 << 14];
 static vwrite_file table[FILES];
 static uint8_t shown[512], written[512];
+static uint64_t entries, bytes;
 
 static uint64_t number(char **p) {
     while (**p == ' ' || **p == ':') ++*p;
@@ -43,6 +44,11 @@ static void sector(char **p, uint8_t *out, const uint8_t *other) {
     } while (**p == ',');
 }
 
+static void bad(unsigned long at) {
+    fprintf(stderr, "line %lu is not one that is taken here: %.40s\n", at, line);
+    exit(3);
+}
+
 static void tell(unsigned long at, uint8_t no) {
     printf("%lu %u %08lx\n", at, no, (unsigned long)hash);
 }
@@ -51,6 +57,7 @@ static void read_start(unsigned long at, char *p) {
     uint32_t first = (uint32_t)number(&p);
     vwrite_len n = 0;
     while (*p == ' ') {
+        if (n == FILES) bad(at);
         vwrite_file *f = &table[n++];
         f->id = (uint16_t)number(&p);
         f->slot = (uint16_t)number(&p);
@@ -73,12 +80,32 @@ static void read_write(unsigned long at, char *p) {
     if (nfiles) reasons(lba % nfiles, 0, lba, shown, written);
 }
 
-static void read_medium(char *p) {
-    nfat = number(&p);
-    narea = number(&p);
-    if (nfat > ENTRIES || narea > AREA_BYTES) exit(3);
+static void read_medium(unsigned long at, char *p) {
+    entries = nfat = number(&p);
+    bytes = narea = number(&p);
+    if (nfat > ENTRIES || narea > AREA_BYTES) bad(at);
     memset(fat, 0, sizeof fat);
     memset(area, (int)number(&p), (uint32_t)narea);
+}
+
+/* What is set in the medium, or lent of it. */
+static void read_part(unsigned long at, char *p) {
+    uint64_t a = number(&p);
+    if (!strncmp(line, "mfill ", 6)) {
+        uint64_t from = number(&p), to = number(&p);
+        if (to > entries) bad(at);
+        while (from < to) fat[from++] = (uint16_t)a;
+    } else if (!strncmp(line, "mfat ", 5)) {
+        while (*p == ' ' && a < entries) fat[a++] = (uint16_t)number(&p);
+    } else if (!strncmp(line, "mdata ", 6)) {
+        p += *p == ' ';
+        if (a + strlen(p) / 2 > bytes) bad(at);
+        hex(&p, area + a);
+    } else {
+        nfat = a;
+        narea = number(&p);
+        if (nfat > entries || narea > bytes) bad(at);
+    }
 }
 
 static void read_mode(char *p) {
@@ -95,25 +122,22 @@ static bool word(const char *name, char **p) {
 
 static void call(unsigned long at) {
     char *p;
-    if (word("medium", &p)) read_medium(p);
-    else if (word("mfill", &p)) {
-        uint16_t v = (uint16_t)number(&p);
-        uint64_t from = number(&p), to = number(&p);
-        while (from < to) fat[from++] = v;
-    } else if (word("start", &p)) read_start(at, p);
+    if (word("medium", &p)) read_medium(at, p);
+    else if (word("mfill", &p) || word("mfat", &p) || word("mdata", &p) || word("lend", &p)) read_part(at, p);
+    else if (word("start", &p)) read_start(at, p);
     else if (word("rw", &p)) read_mode(p);
+    else if (word("set_read_only", &p)) set_read_only(number(&p));
+    else if (word("bus_reset_w", &p)) mode_reset();
     else if (word("write", &p)) read_write(at, p);
     else if (word("poll", &p)) {
         uint64_t clock = number(&p);
         number(&p);
         tell(at, tick(clock, number(&p)));
     } else if (word("release", &p)) tell(at, release());
+    else if (word("release_all", &p)) tell(at, release_all(number(&p)));
     else if (word("bus_reset", &p)) tell(at, bus_reset());
     else if (word("gone", &p)) tell(at, report_gone(number(&p)));
-    else if (!word("handed", &p) && !word("state", &p)) {
-        fprintf(stderr, "line %lu is not known here: %.40s\n", at, line);
-        exit(3);
-    }
+    else if (!word("handed", &p) && !word("state", &p) && !word("end", &p)) bad(at);
 }
 
 static void replay(const char *name) {
@@ -127,7 +151,8 @@ static void replay(const char *name) {
     session_new();
     while (fgets(line, sizeof line, f)) {
         at++;
-        if (line[0] != '#' && line[0] != '\n') call(at);
+        line[strcspn(line, "\r\n")] = 0;
+        if (line[0] != '#' && line[0] != 0) call(at);
     }
     fclose(f);
     find_handed(&handed);

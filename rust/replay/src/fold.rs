@@ -77,13 +77,15 @@ impl<W: Write> Lines<W> {
         }
         let what = match run.clusters.len() {
             0 => format!("{} sectors of the {}", run.texts.len(), run.kind.part),
+            1 => format!("{} sectors of data, in one cluster", run.texts.len()),
             n => format!("{} sectors of data, in {n} clusters", run.texts.len()),
         };
         let end = match run.kind.number {
             0 => "all taken".to_string(),
             n => format!("all refused, {n}: {}", words::refusal(n)),
         };
-        writeln!(self.out, "lines {} to {}: {what}, {end}", run.from.line, run.to)
+        let clock = run.from.to_string().split_once(" at ").map_or(String::new(), |(_, c)| format!(" from {c} on"));
+        writeln!(self.out, "lines {} to {}{clock}: {what}, {end}", run.from.line, run.to)
     }
 
     pub fn end(&mut self) -> std::io::Result<()> {

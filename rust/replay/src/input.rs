@@ -2,9 +2,10 @@
 use line_form::Call;
 use std::io::BufRead;
 
-/// An error or a warning, cut at 200 characters.
+/// An error or a warning: a line of up to 200 characters, of which the second part is kept whole.
 pub fn tell(what: &str, then: &str) {
-    let mut text: String = what.chars().take(200).collect();
+    let room = 200 - "replay:  ..; ".len() - then.len();
+    let mut text: String = what.chars().take(room).collect();
     if text.len() < what.len() {
         text.push_str(" ..");
     }

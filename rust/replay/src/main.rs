@@ -47,6 +47,7 @@ struct Replay<W: Write> {
 enum Failed {
     /// The recording is wrong there.
     Wrong(String),
+    Input(std::io::Error),
     Output(std::io::Error),
 }
 
@@ -95,7 +96,8 @@ impl<W: Write> Replay<W> {
             Answer::Ended(e) => Some(e.no),
             _ => None,
         };
-        self.recorded.call(line, &call, number);
+        let handed = matches!(call, Call::Handed).then(|| self.session.handed());
+        self.recorded.call(line, number, handed);
         self.tell(&call, &answer, &before, number, at).map_err(Failed::Output)
     }
 
@@ -131,12 +133,12 @@ impl<W: Write> Replay<W> {
             }
             let count = |f: Fate| stories.iter().filter(|s| s.fate() == f).count();
             self.lines.tell(&format!(
-                "{} {}: {} ever handed, {} of them deleted; {} turned or freed, and that was lost; {} in refused sectors only; {} untouched",
-                stories.len(),
-                if stories.len() == 1 { "file" } else { "files" },
+                "{}: {} ever handed, {} of them deleted; {} given up, and that was lost; {} not handed so far; {} in refused sectors only; {} untouched",
+                words::files_told(stories.len()),
                 stories.iter().filter(|s| s.was_handed()).count(),
                 count(Fate::Deleted),
                 count(Fate::Lost),
+                count(Fate::Begun),
                 count(Fate::Refused),
                 count(Fate::Untouched)
             ))?;
@@ -146,10 +148,9 @@ impl<W: Write> Replay<W> {
 
     /// What is told at the end.
     fn end(&mut self) -> std::io::Result<()> {
-        let handed = self.session.handed();
-        self.recorded.end(&handed);
+        self.recorded.end();
         match self.form {
-            Form::Numbers => self.lines.tell(&handed.iter().fold("handed".to_string(), |t, j| format!("{t} {j}")))?,
+            Form::Numbers => self.lines.tell(&self.session.handed().iter().fold("handed".to_string(), |t, j| format!("{t} {j}")))?,
             Form::Check => {}
             _ => self.stories()?,
         }
@@ -165,7 +166,7 @@ fn run(mut input: impl BufRead, form: Form) -> Result<i32, Failed> {
     let mut replay = Replay { session, reasons, recorded, form, lines, clock: None, by_calls: true };
     let mut ending = Ending::default();
     let mut status = 0;
-    while let Some((line, bytes)) = ending.next(&mut input)? {
+    while let Some((line, bytes)) = ending.next(&mut input).map_err(Failed::Input)? {
         let done = line_form::text(&bytes).map_err(Failed::Wrong).and_then(|text| match line_form::parse(text).map_err(Failed::Wrong)? {
             _ if ending.is_over() && !text.starts_with('#') && !text.trim().is_empty() => Err(Failed::Wrong("the recording has ended".to_string())),
             None => Ok(replay.remark(text)?),
@@ -183,21 +184,24 @@ fn run(mut input: impl BufRead, form: Form) -> Result<i32, Failed> {
         done?;
     }
     replay.end()?;
+    if form == Form::Check {
+        replay.recorded.wrong.iter().for_each(|w| input::tell(w, "other than recorded"));
+        status |= !replay.recorded.wrong.is_empty() as i32;
+    }
     if status == 0 {
         ending.taken(replay.session.started);
         ending.warnings().iter().for_each(|w| input::tell(w, "the recording may be cut short"));
-        replay.recorded.wrong.iter().filter(|_| form == Form::Check).for_each(|w| input::tell(w, "other than recorded"));
-        status = (!ending.warnings().is_empty() || form == Form::Check && !replay.recorded.wrong.is_empty()) as i32;
+        status = !ending.warnings().is_empty() as i32;
     }
     Ok(status)
 }
 
 fn usage(status: i32) -> ! {
-    if status == 0 {
-        println!("{USAGE}");
-    } else {
-        eprintln!("{USAGE}");
-    }
+    // Whoever reads it may have read enough.
+    let _ = match status {
+        0 => writeln!(std::io::stdout(), "{USAGE}"),
+        _ => writeln!(std::io::stderr(), "{USAGE}"),
+    };
     std::process::exit(status);
 }
 
@@ -232,6 +236,10 @@ fn main() {
         Err(Failed::Output(e)) if e.kind() == ErrorKind::BrokenPipe => {}
         Err(Failed::Output(e)) => {
             input::tell(&e.to_string(), "the rest was not told");
+            std::process::exit(2);
+        }
+        Err(Failed::Input(e)) => {
+            input::tell(&format!("{}: {e}", file.as_deref().unwrap_or("standard input")), "it can't be read");
             std::process::exit(2);
         }
         Err(Failed::Wrong(what)) => {

@@ -1,6 +1,6 @@
 //! What the calls held of each file: demand 3's own conditions, kept up from call to call by the proved library, each change a point of the file's story.
 use crate::session::Session;
-use crate::story::{At, Story, What};
+use crate::story::{At, How, Story, What};
 use bindings::calls::*;
 use bindings::{File, State, DATA_START, SPC};
 use line_form::Call;
@@ -89,8 +89,8 @@ impl Reasons {
     }
 
     /// A refused write that concerns these rows.
-    pub fn refused(&mut self, rows: &[(usize, &'static str)], number: u8, at: At) {
-        rows.iter().for_each(|&(j, part)| self.rows[j].story.add(at, What::Refused { number, part }));
+    pub fn refused(&mut self, rows: &[(usize, How)], number: u8, at: At) {
+        rows.iter().for_each(|&(j, how)| self.rows[j].story.add(at, What::Refused(number, how)));
     }
 
     /// A call that may end the session; `met` is the state that it met. Only a release that ran to its end asks which files were named then.

@@ -1,53 +1,65 @@
-//! What a recording says of its own calls: remarks `#= .. num=N` after a call, and `#= ROW ..` after `handed`.
-use line_form::Call;
+//! What a recording says of its own calls: a remark `#= .. num=N` after a call is the number that it answered, else 0; `#= ROW ..` or `#= none` after `handed` are the rows.
 
-/// The answers of the last call that were recorded: its number, else 0, and the rows handed.
+/// The last call, as it was answered here, and what was recorded of it.
+struct Last {
+    line: usize,
+    number: Option<u8>,
+    recorded: Option<u8>,
+    handed: Option<Vec<usize>>,
+    rows: Option<Vec<usize>>,
+}
+
 #[derive(Default)]
 pub struct Recorded {
-    /// The line of the call that a remark would belong to, its number as replayed, and whether a remark named one.
-    last: Option<(usize, u8, Option<u8>)>,
-    asks: bool,
-    handed: Option<Vec<usize>>,
+    last: Option<Last>,
+    remarks: usize,
     pub wrong: Vec<String>,
 }
 
 impl Recorded {
-    /// A remark of the recording.
-    pub fn remark(&mut self, line: &str) {
-        let Some(words) = line.strip_prefix("#= ") else { return };
-        if self.asks {
-            let rows: Option<Vec<usize>> = words.split_whitespace().map(|w| w.parse().ok()).collect();
-            self.handed = match words.trim() {
+    /// A remark of the recording, which belongs to the call before it.
+    pub fn remark(&mut self, text: &str) {
+        let Some(words) = text.strip_prefix("#= ") else { return };
+        self.remarks += 1;
+        let Some(last) = &mut self.last else { return };
+        if last.handed.is_some() {
+            last.rows = match words.trim() {
                 "none" => Some(vec![]),
-                _ => rows.or(self.handed.take()),
+                rows => rows.split_whitespace().map(|w| w.parse().ok()).collect(),
             };
-        }
-        let number = words.split(' ').find_map(|w| w.strip_prefix("num=")?.parse().ok());
-        if let (Some(last), Some(n)) = (&mut self.last, number) {
-            last.2 = Some(n);
-        }
-    }
-
-    /// A call, and the number that it answered here.
-    pub fn call(&mut self, line: usize, call: &Call, number: Option<u8>) {
-        self.settle();
-        self.asks = matches!(call, Call::Handed);
-        self.last = number.map(|n| (line, n, None));
-    }
-
-    fn settle(&mut self) {
-        if let Some((line, ours, recorded)) = self.last.take() {
-            if ours != recorded.unwrap_or(0) {
-                self.wrong.push(format!("line {line} answers {ours}, recorded is {}", recorded.unwrap_or(0)));
+            if last.rows.is_none() {
+                self.wrong.push(format!("line {}: {words:?} are no rows", last.line));
+            }
+        } else if let Some(n) = words.split(' ').find_map(|w| w.strip_prefix("num=")) {
+            last.recorded = n.parse().ok();
+            if last.recorded.is_none() {
+                self.wrong.push(format!("line {}: {n:?} is no number", last.line));
             }
         }
     }
 
-    /// The rows handed at the end.
-    pub fn end(&mut self, rows: &[usize]) {
+    /// A call, with the number or the rows that it answered here.
+    pub fn call(&mut self, line: usize, number: Option<u8>, handed: Option<Vec<usize>>) {
         self.settle();
-        if let Some(recorded) = self.handed.take().filter(|h| h != rows) {
-            self.wrong.push(format!("handed at the end are the rows {rows:?}, recorded are {recorded:?}"));
+        self.last = Some(Last { line, number, recorded: None, handed, rows: None });
+    }
+
+    fn settle(&mut self) {
+        let Some(Last { line, number, recorded, handed, rows }) = self.last.take() else { return };
+        if let Some(n) = number.filter(|n| *n != recorded.unwrap_or(0)) {
+            self.wrong.push(format!("line {line} answers {n}, recorded is {}", recorded.unwrap_or(0)));
+        }
+        if let (Some(ours), Some(recorded)) = (handed, rows) {
+            if ours != recorded {
+                self.wrong.push(format!("line {line}: handed are the rows {ours:?}, recorded are {recorded:?}"));
+            }
+        }
+    }
+
+    pub fn end(&mut self) {
+        self.settle();
+        if self.remarks == 0 {
+            self.wrong.insert(0, "the recording holds no answers".to_string());
         }
     }
 }

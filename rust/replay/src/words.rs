@@ -1,5 +1,6 @@
 //! What was judged, in words.
 use crate::session::{Answer, Session};
+use crate::story::How;
 use bindings::calls::{vwrite_dir_kind, vwrite_owner, vwrite_pair};
 use bindings::{File, Sector, State, CB, DATA_START, FAT_SECS, FAT_START, LAST_CLUSTER, ROOT_START, SPC, TOTAL};
 use line_form::Call;
@@ -40,6 +41,10 @@ const REFUSALS: [&str; 22] = [
 
 pub fn refusal(number: u8) -> &'static str {
     REFUSALS.get(number as usize).unwrap_or(&"no number that is known")
+}
+
+pub fn files_told(n: usize) -> String {
+    format!("{n} {}", if n == 1 { "file" } else { "files" })
 }
 
 /// The name that the drive shows for a file.
@@ -209,27 +214,30 @@ fn named(b: &Before, d: &Sector) -> Vec<usize> {
     d.chunks(32).filter(is_slot).filter_map(file).collect()
 }
 
-/// The rows that a refused sector concerns, each with how: its entries, its slot or its data would change, or the sector names it elsewhere.
-pub fn concerned(b: &Before, lba: u32, g: &Sector, d: &Sector) -> Vec<(usize, &'static str)> {
-    let elsewhere = match place(lba) {
-        Place::Data(..) | Place::Root(_) => named(b, d),
-        _ => vec![],
-    };
-    let (rows, part) = touched(b, lba, g, d);
-    rows.into_iter().map(|j| (j, part)).chain(elsewhere.into_iter().map(|j| (j, "naming"))).collect()
+/// Of a file whose slot would change: is it turned, its first byte to 0xE5 and nothing else but dates.
+fn turns(g: &[u8], d: &[u8]) -> bool {
+    let is_date = |i: usize| matches!(i, 0x0D..=0x13 | 0x16..=0x19);
+    d[0] == 0xE5 && (1..32).all(|i| g[i] == d[i] || is_date(i))
 }
 
-/// The rows whose entries, slot or data a written sector would change, and which of the three.
-fn touched(b: &Before, lba: u32, g: &Sector, d: &Sector) -> (Vec<usize>, &'static str) {
-    let (mut rows, part): (Vec<usize>, _) = match place(lba) {
-        Place::Fat(s) => (changed_entries(s, g, d).into_iter().filter_map(|(c, _)| file_of(b, c)).collect(), "FAT"),
-        Place::Directory(_, kind, s) => (changed_slots(g, d).into_iter().filter_map(|i| file_in(b, kind, s * 16 + i as u32)).collect(), "directory"),
-        Place::Data(c, _) => (file_of(b, c).into_iter().collect(), "data"),
-        _ => (vec![], ""),
+/// The rows that a refused sector concerns, each with how.
+pub fn concerned(b: &Before, lba: u32, g: &Sector, d: &Sector) -> Vec<(usize, How)> {
+    let names = || named(b, d).into_iter().map(|j| (j, How::Names));
+    let mut rows: Vec<(usize, How)> = match place(lba) {
+        Place::Fat(s) => {
+            let how = |j: usize| if kept_entry(b, j, s, d).is_none() { How::Zeroes } else { How::Entries };
+            changed_entries(s, g, d).into_iter().filter_map(|(c, _)| file_of(b, c)).map(|j| (j, how(j))).collect()
+        }
+        Place::Directory(_, kind, s) => {
+            let how = |i: usize| if turns(&g[i * 32..i * 32 + 32], &d[i * 32..i * 32 + 32]) { How::Turns } else { How::Slot };
+            changed_slots(g, d).into_iter().filter_map(|i| Some((file_in(b, kind, s * 16 + i as u32)?, how(i)))).collect()
+        }
+        Place::Data(c, _) => file_of(b, c).into_iter().map(|j| (j, How::Data)).chain(names()).collect(),
+        Place::Root(_) => names().collect(),
+        _ => vec![],
     };
-    rows.sort_unstable();
     rows.dedup();
-    (rows, part)
+    rows
 }
 
 /// The marks that a call set.
@@ -254,9 +262,9 @@ pub fn told(call: &Call, answer: &Answer, b: &Before, after: &Session) -> Option
                 _ => (format!("{what}: {}", refused(*n)), false),
             });
         }
-        (Call::Start { files, .. }, Answer::Number(0)) => format!("a start with {} files: taken", files.len()),
+        (Call::Start { files, .. }, Answer::Number(0)) => format!("a start with {}: taken", files_told(files.len())),
         (Call::Gone(row), Answer::Number(0)) => format!("{} is reported gone", file_name(b.files[*row].id)),
-        (Call::Start { files, .. }, Answer::Number(n)) => format!("a start with {} files: {}", files.len(), refused(*n)),
+        (Call::Start { files, .. }, Answer::Number(n)) => format!("a start with {}: {}", files_told(files.len()), refused(*n)),
         (Call::Gone(row), Answer::Number(n)) => format!("a report of row {row}: {}", refused(*n)),
         (_, Answer::Number(n)) => refused(*n),
         (_, Answer::Ended(e)) => match (e.no, e.ended) {
