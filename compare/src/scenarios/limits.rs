@@ -14,9 +14,6 @@ pub fn all(r: &mut Rng, both: &mut Both) {
     let (w, files) = (both.w, both.files.clone());
     both.set_session(w, &files);
     places(both);
-    boot_bytes(both);
-    first_entries(both);
-    held_blocks(r, both);
     lengths(r, both);
     values(r, both);
     names(r, both);
@@ -36,6 +33,9 @@ pub fn all(r: &mut Rng, both: &mut Both) {
         both.complete(9, size);
         both.body(9, size);
     }
+    boot_bytes(both);
+    first_entries(both);
+    held_blocks(r, both);
 }
 
 fn places(both: &mut Both) {
@@ -73,8 +73,11 @@ fn first_entries(both: &mut Both) {
 fn held_blocks(r: &mut Rng, both: &mut Both) {
     let (w, files) = (both.w, both.files.clone());
     let last = both.fat.len() as u16 - 1;
+    let noise = hosts::noise(r, 4096);
+    let n = noise.len().min(both.area.len());
+    both.set_area(0, &noise[..n]);
     let mut st = w.st;
-    st[3] = St { c: 60_000, map: u64::MAX, blk: [0, 2, last, last + 1, 65_525, 3, 0, 2], ..St::default() };
+    st[3] = St { c: 60_000, map: u64::MAX, blk: [2, 0, last, last + 1, 65_525, 3, 0, 2], ..St::default() };
     both.set_session(State { st, ..w }, &files);
     for s in 0..64 {
         both.staged_read(60_000, s);
