@@ -1,1 +1,3 @@
 // Which sectors the rules admit, over the definitions: nothing runs here.
+
+#![tactic(auto)]

@@ -1,4 +1,7 @@
 // Bits of a number.
+
+#![tactic(auto)]
+
 ghost use Rattle.std.specs.Prelude.{◌≡◌, ℕ, ◌<◌};
 ghost use Rattle.bits.specs.Bit.{bit, set_bit};
 

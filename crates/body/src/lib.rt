@@ -1,4 +1,7 @@
 // The check of an update file's body.
+
+#![tactic(auto)]
+
 ghost use Rattle.std.specs.Prelude.{◌≡◌, ◌-◌, ◌*◌, ◌/◌, ◌%◌, ◌≤◌, min, eqb, length};
 ghost use Rattle.loops.specs.Loops.{pick};
 ghost use Rattle.medium.specs.Reads.{sector_of};
@@ -17,14 +20,14 @@ use vdisk::drive::SPC;
 
 // The refusal number, 0 where there is none, and whether the body is valid.
 #[repr(C)]
-#[derive(Drop)]
+#[derive(Clone, Copy)]
 pub struct BodyCheck {
     pub no: u8,
     pub valid: bool,
 }
 
 // What the file's bytes so far give: the header's words at 4 and at 8, and the CRC.
-#[derive(Drop)]
+#[derive(Clone, Copy)]
 struct Sum {
     word1: u32,
     word2: u32,

@@ -4,6 +4,9 @@
 // the place of a byte, and the bits of it that are turned; the last cluster's link; how many sectors of the second cluster are staged; the
 // block of the first cluster's last sectors; the start.
 // `#` is a comment.
+
+#![tactic(auto)]
+
 mod fields;
 mod files;
 

@@ -1,4 +1,7 @@
 // Chains of the host's files.
+
+#![tactic(auto)]
+
 ghost use Rattle.std.specs.Prelude.{◌≡◌, not, ◌&&◌, ◌-◌, ◌*◌, ◌^◌, ◌<◌, ◌≤◌, eqb, length, get_or};
 ghost use Rattle.loops.specs.Loops.{some};
 ghost use Rattle.loops.specs.Found.{find};
@@ -14,7 +17,7 @@ use vdisk::drive::{CB, SPC, nclus};
 
 // A file's chain: whether it is complete, its staging slots in the file's order, and how many they are.
 #[repr(C)]
-#[derive(Drop)]
+#[derive(Clone, Copy)]
 pub struct Chain {
     pub found: bool,
     pub slots: [u8; NST],

@@ -1,4 +1,7 @@
 // Which clusters are a file's and live, and which are the host's.
+
+#![tactic(auto)]
+
 ghost use Rattle.std.specs.Prelude.{◌≡◌, true, ℕ, ◌<◌, length};
 ghost use Rattle.vdisk.specs.Owner.{rises};
 ghost use Rattle.clusters.specs.Clusters.{is_nothing, is_live, host_cluster};

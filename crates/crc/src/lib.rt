@@ -1,4 +1,7 @@
 // The update file's CRC.
+
+#![tactic(auto)]
+
 ghost use Rattle.std.specs.Prelude.{◌≡◌};
 ghost use Rattle.crc.specs.Crc.{crc_byte, crc_of};
 ghost use Rattle.crc.specs.CrcLaws.{table};

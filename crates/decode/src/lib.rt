@@ -1,4 +1,7 @@
 // How a block of an update file is decoded.
+
+#![tactic(auto)]
+
 ghost use Rattle.std.specs.Prelude.{◌≡◌, ◌<◌};
 ghost use Rattle.loops.specs.Rows.{rows};
 ghost use Rattle.decode.specs.Decode.{key_at, decodes, decoded_with, decoded};

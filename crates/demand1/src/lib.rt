@@ -1,1 +1,3 @@
 // Demand 1, over the definitions: nothing runs here.
+
+#![tactic(auto)]

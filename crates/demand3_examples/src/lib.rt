@@ -1,1 +1,3 @@
 // One file in lists of calls, computed. Nothing runs.
+
+#![tactic(auto)]

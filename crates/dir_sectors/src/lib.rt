@@ -1,4 +1,7 @@
 // How a written sector of a generated directory is judged.
+
+#![tactic(auto)]
+
 ghost use Rattle.std.specs.Prelude.{◌≡◌, ℕ, ◌<◌, ◌≤◌, length};
 ghost use Rattle.loops.specs.Loops.{pick};
 ghost use Rattle.loops.specs.Rows.{rows as rows_of};
@@ -89,7 +92,7 @@ fn turned_by(
 }
 
 // What the slots of a sector turn: the refusal number, whether a slot turns a file, and 1 at each row that is turned.
-#[derive(Drop)]
+#[derive(Clone, Copy)]
 struct Turns {
     no: u8,
     any: bool,
@@ -180,7 +183,7 @@ fn mark_rows(
 }
 
 // How a directory sector was judged: the refusal number, 0 where it was taken, and whether that opens the session.
-#[derive(Drop)]
+#[derive(Clone, Copy)]
 pub struct Judged {
     pub no: u8,
     pub changed: bool,

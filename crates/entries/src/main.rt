@@ -1,4 +1,7 @@
 // The entry listing of standard input. An input that fills the buffer is longer than what is listed, so no more of it is read.
+
+#![tactic(auto)]
+
 use entry_write::list::list;
 
 fn main() {

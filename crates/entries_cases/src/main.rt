@@ -1,4 +1,7 @@
 // Inputs of the entry listing at its corners, each with what it prints.
+
+#![tactic(auto)]
+
 use entry_write::list::list;
 
 fn case(name: &[u8], input: &[u8]) {

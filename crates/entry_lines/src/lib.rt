@@ -1,4 +1,7 @@
 // The lines that the entry listing reads: a line of names, then three values a line.
+
+#![tactic(auto)]
+
 ghost use Rattle.std.specs.Prelude.{◌≡◌, true, ℕ, ◌≤◌, ◌<◌, length};
 ghost use Rattle.entry_lines.specs.EntryLines.{line_end, names_line, bad_names, entry_line, bad_line};
 
@@ -13,14 +16,14 @@ const MAX_ENTRY: u64 = 65023;
 const MAX_VALUE: u64 = 65535;
 
 // Is the input read at all, and where its lines begin after the line of names.
-#[derive(Drop)]
+#[derive(Clone, Copy)]
 pub struct Names {
     pub ok: bool,
     pub next: usize,
 }
 
 // A line's three values, and where the next line begins.
-#[derive(Drop)]
+#[derive(Clone, Copy)]
 pub struct Line {
     pub ok: bool,
     pub entry: u16,

@@ -1,4 +1,7 @@
 // One entry of the entry listing: a FAT write in which that entry alone differs.
+
+#![tactic(auto)]
+
 pub mod list;
 
 ghost use Rattle.std.specs.Prelude.{◌≡◌, ℕ, ◌≤◌};
@@ -11,7 +14,7 @@ use state::w::{Answer, NPAIR, Pair, W, initial_state};
 use write::write;
 
 // What is printed of an entry: its answer, 0 where it was taken, and what the state then has.
-#[derive(Drop)]
+#[derive(Clone, Copy)]
 pub struct Row {
     pub entry: u16,
     pub answer: u8,
@@ -19,7 +22,7 @@ pub struct Row {
     pub fat1: u16,
 }
 
-#[derive(Drop)]
+#[derive(Clone, Copy)]
 pub struct Judged {
     pub row: Row,
     pub w: W,

@@ -7,7 +7,7 @@ use entry_lines::{names_line, next_line};
 use state::w::W;
 
 // Was the input good to its end, and the state after its last good line.
-#[derive(Drop)]
+#[derive(Clone, Copy)]
 pub struct Listing {
     pub ok: bool,
     pub w: W,

@@ -21,7 +21,7 @@ use vdisk::ids::FREED;
 use vdisk::owner::{Own, owner};
 
 // What the entries of a sector tell: the refusal number, and, where that is 0, 1 at each row that the sector frees.
-#[derive(Drop)]
+#[derive(Clone, Copy)]
 struct Scanned {
     no: u8,
     rows: [u8; MAX_VF],

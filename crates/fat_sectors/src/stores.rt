@@ -8,7 +8,7 @@ use state::pairs::{free_pair, pair_idx};
 use state::w::{BPC, NPAIR, Pair, St};
 
 // The place where a pair is set, or where one is removed with its staging slot; `Keep` where nothing is stored.
-#[derive(Drop)]
+#[derive(Clone, Copy)]
 pub enum Store {
     Keep,
     Put(usize),

@@ -1,4 +1,7 @@
 // The file table, and which tables a start takes.
+
+#![tactic(auto)]
+
 ghost use Rattle.std.specs.Prelude.{◌≡◌, true, ℕ, ◌<◌, length};
 ghost use Rattle.vdisk.specs.Owner.{rises};
 ghost use Rattle.file_table.specs.TableLaws.{place_key};
@@ -14,7 +17,7 @@ pub const MAX_VF: usize = 400;
 // A file of the table. `id` holds the kind and number, and the marks; `slot` is its directory slot, `vstart` its first cluster
 // and `vsize` its size on the drive; `src` and `ssize` are the first cluster and size of the file that it is made from.
 #[repr(C)]
-#[derive(Drop)]
+#[derive(Clone, Copy)]
 pub struct VF {
     pub id: u16,
     pub slot: u16,

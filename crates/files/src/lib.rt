@@ -1,11 +1,14 @@
 // The lent table of files: its columns for the judges, and the ids back into it.
+
+#![tactic(auto)]
+
 ghost use Rattle.std.specs.Prelude.{◌≡◌, length, take};
 ghost use Rattle.files.specs.Files.{rows_taken, columns_of, with_ids};
 
 use file_table::{MAX_VF, VF};
 
 // The table by columns. `n` is how many files it has; of more than 400 no row is taken.
-#[derive(Drop)]
+#[derive(Clone, Copy)]
 pub struct Columns {
     pub n: usize,
     pub ids: [u16; MAX_VF],

@@ -1,4 +1,7 @@
 // FAT sectors whose changed entries need no more of the table than one file, judged with that file alone.
+
+#![tactic(auto)]
+
 pub mod entries;
 pub mod fate;
 
@@ -14,7 +17,7 @@ use tally::tally;
 use write::lent::whole_sectors;
 
 // Is it settled; the refusal number, 0 where the sector is taken; the file's id and the state then.
-#[derive(Drop)]
+#[derive(Clone, Copy)]
 pub struct FreedFile {
     pub settled: bool,
     pub no: u8,

@@ -1,4 +1,7 @@
 // The hosts' own root entries, told by prefixes of their names.
+
+#![tactic(auto)]
+
 ghost use Rattle.std.specs.Prelude.{◌≡◌, ℕ, ◌-◌, ◌≤◌, take, drop};
 ghost use Rattle.housekeeping.specs.Housekeeping.{is_prefix, is_housekeeping};
 ghost use Rattle.housekeeping.specs.EndToEnd.{prefix_bytes};

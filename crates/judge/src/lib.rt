@@ -1,4 +1,7 @@
 // How a written sector is judged by its place.
+
+#![tactic(auto)]
+
 pub mod boot;
 pub mod classify;
 pub mod places;

@@ -1,4 +1,7 @@
 // Runs the calls of a recording on standard input: for each call that answers its line and what it answers; `bad` for a bad line.
+
+#![tactic(auto)]
+
 use recording::input::run_all;
 
 fn main() {

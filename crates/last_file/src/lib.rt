@@ -1,4 +1,7 @@
 // The last file of the table: what it says of a cluster, and whether that is what the whole table says.
+
+#![tactic(auto)]
+
 ghost use Rattle.std.specs.Prelude.{◌≡◌};
 ghost use Rattle.clusters.specs.Clusters.{host_cluster};
 ghost use Rattle.last_file.specs.LastFile.{last_rows, last_ids, last_starts, last_sizes, decides};
@@ -7,7 +10,7 @@ use clusters::host_cluster;
 use state::w::{NPAIR, Pair};
 
 // How many files the table has, and the last one's id, start and shown size, zeros where there is none.
-#[derive(Drop)]
+#[derive(Clone, Copy)]
 pub struct LastFile {
     pub n: usize,
     pub id: u16,

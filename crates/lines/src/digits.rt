@@ -4,7 +4,7 @@ ghost use Rattle.loops.specs.Loops.{pick};
 ghost use Rattle.lines.specs.Digits.{read_to, failed_at, is_digit, number_at, field_end, number_field, hex_digit, byte_at};
 
 // What was read of a line, and where the line goes on. Once a read is not `ok`, those after it aren't.
-#[derive(Drop)]
+#[derive(Clone, Copy)]
 pub struct Read {
     pub ok: bool,
     pub value: u64,

@@ -1,3 +1,6 @@
 // Lines of text: their numbers, hex bytes and words.
+
+#![tactic(auto)]
+
 pub mod digits;
 pub mod words;

@@ -1,7 +1,9 @@
 // Definitions of loops over numbers and of searches, and their laws. Nothing runs here.
 
+#![tactic(auto)]
+
 // What a search answers: where it found something, or that it found nothing.
-#[derive(Drop)]
+#[derive(Clone, Copy)]
 pub enum Found {
     At(usize),
     Nothing,

@@ -1,2 +1,5 @@
 // The lines that make a medium.
+
+#![tactic(auto)]
+
 pub mod media;

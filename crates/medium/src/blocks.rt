@@ -42,7 +42,7 @@ pub fn block(area: &[u8], b: usize) -> &[u8]
 }
 
 // What a search for a free block answers, and where the next one goes on.
-#[derive(Drop)]
+#[derive(Clone, Copy)]
 pub struct NextFree {
     pub found: bool,
     pub block: u16,

@@ -12,7 +12,7 @@ use state::w::{NST, St};
 
 // The refusal number, 0 where there is none, and whether the cluster is staged.
 #[repr(C)]
-#[derive(Drop)]
+#[derive(Clone, Copy)]
 pub struct StagedRead {
     pub no: u8,
     pub staged: bool,

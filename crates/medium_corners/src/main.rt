@@ -1,4 +1,7 @@
 // Prints what `records`, `state` and `medium` answer at the corners of their definitions and beside them.
+
+#![tactic(auto)]
+
 mod blocks;
 mod lookups;
 mod queries;

@@ -1,3 +1,6 @@
 // Names of root slots.
+
+#![tactic(auto)]
+
 pub mod entries;
 pub mod text;

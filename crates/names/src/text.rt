@@ -8,7 +8,7 @@ use crate::entries::{char_at, entry_at, text_len};
 use records::{NREC, Rec};
 
 // The first `len` of the characters count.
-#[derive(Drop)]
+#[derive(Clone, Copy)]
 pub struct Name {
     pub chars: [u8; 32],
     pub len: usize,

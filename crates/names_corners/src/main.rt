@@ -4,6 +4,9 @@
 // `C` clears sector and records, `S dd hex` sets a slot of the sector, `R i ddd hex` sets record i to root slot ddd,
 // `Q ddd h` asks about root slot ddd in this sector, h says whether its start is 0 or the host's, `L ddd` asks with a sector of 511 bytes.
 // `#` is a comment.
+
+#![tactic(auto)]
+
 mod fields;
 mod shown;
 
@@ -11,7 +14,7 @@ use fields::{bytes, digit, three, two};
 use records::{NREC, Rec};
 use root_slots::{rec_ok, strict_name};
 
-#[derive(Drop)]
+#[derive(Clone, Copy)]
 struct Root {
     d: [u8; 512],
     rec: [Rec; NREC],

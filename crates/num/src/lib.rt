@@ -1,4 +1,7 @@
 // Arithmetic that Rust has as methods of its numbers.
+
+#![tactic(auto)]
+
 ghost use Rattle.std.specs.Prelude.{◌≡◌, ℕ, ◌-◌, min, max};
 ghost use Rattle.num.specs.Num.{wrapping_next};
 

@@ -1,1 +1,3 @@
 // Which taken sectors open the session, over the definitions: nothing runs here.
+
+#![tactic(auto)]

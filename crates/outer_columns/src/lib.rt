@@ -1,4 +1,7 @@
 // A written sector over the lent state and table, judged by the table's columns. What the proofs of the outer calls share stands in proofs/.
+
+#![tactic(auto)]
+
 ghost use Rattle.std.specs.Prelude.{◌≡◌};
 ghost use Rattle.files.specs.Files.{with_ids};
 ghost use Rattle.table_calls.specs.Calls.{files_written};

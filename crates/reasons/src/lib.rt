@@ -1,4 +1,7 @@
 // Why a file is handed to deletion, or what is missing: what demand 3 asks of the calls, kept up from call to call.
+
+#![tactic(auto)]
+
 ghost use Rattle.std.specs.Prelude.{◌≡◌, [], ◌∷◌, ◌<◌, length, true, false};
 ghost use Rattle.vdisk.specs.Drive.{dir_kind_of};
 ghost use Rattle.marks.specs.Seen.{turns_in, all_zero, zeroes_in};
@@ -11,7 +14,7 @@ use vdisk::ids::{id_dir, is_unmarked};
 // entries zeroed, a staged sector that named it at the turn or was staged after it, one that named it so at a release after that, a report
 // that it is gone.
 #[repr(C)]
-#[derive(Drop)]
+#[derive(Clone, Copy)]
 pub struct Reason {
     pub turned: bool,
     pub zeroed: bool,

@@ -1,4 +1,7 @@
 // The host's records in the root.
+
+#![tactic(auto)]
+
 ghost use Rattle.std.specs.Prelude.{◌≡◌, ℕ};
 ghost use Rattle.records.specs.Records.{is_rec, rec_idx, free_rec, free_recs, root_rec};
 
@@ -9,7 +12,7 @@ pub const NREC: usize = 10;
 
 // A raw slot, and the root slot that it stands for, 0 where the place is not in use.
 #[repr(C)]
-#[derive(Drop)]
+#[derive(Clone, Copy)]
 pub struct Rec {
     pub slot: u16,
     pub e: [u8; 32],
@@ -75,7 +78,7 @@ pub fn free_recs(rec: [Rec; NREC]) -> usize
 
 // The host's record in root slot `idx`: is there one, and its bytes, zeros where there is none.
 #[repr(C)]
-#[derive(Drop)]
+#[derive(Clone, Copy)]
 pub struct RootRec {
     pub found: bool,
     pub e: [u8; 32],

@@ -1,4 +1,7 @@
 // FAT sectors that their first changed entry refuses, judged with the one file that its cluster may lie in.
+
+#![tactic(auto)]
+
 pub mod entry;
 
 ghost use Rattle.std.specs.Prelude.{◌≡◌};

@@ -1,4 +1,7 @@
 // How a session is released.
+
+#![tactic(auto)]
+
 pub mod ids;
 pub mod notes;
 pub mod released;
@@ -16,7 +19,7 @@ use state::w::W;
 
 // What a call that may end the session answers: the refusal number; 0 where no release was due, 1 where one ran to its end, 2 where it was put
 // off; whether there was anything to release; the state then.
-#[derive(Drop)]
+#[derive(Clone, Copy)]
 pub struct Ended {
     pub no: u8,
     pub ended: u8,

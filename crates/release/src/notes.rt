@@ -28,7 +28,7 @@ fn is_waiting(id: u16) -> bool
 }
 
 // The rows that wait, and how many.
-#[derive(Drop)]
+#[derive(Clone, Copy)]
 struct Waiting {
     n: usize,
     rows: [u16; MAX_VF],

@@ -11,7 +11,7 @@ use sessions::poll::poll;
 use state::w::W;
 
 // With the clock and whether the drive is mounted, and with whether it is a reset.
-#[derive(Drop)]
+#[derive(Clone, Copy)]
 pub enum Call {
     Poll(u64, bool),
     Release,
@@ -42,7 +42,7 @@ fn ended_by(
     }
 }
 
-#[derive(Drop)]
+#[derive(Clone, Copy)]
 struct Ran {
     no: u8,
     ended: u8,

@@ -1,4 +1,7 @@
 // How a written root sector is judged.
+
+#![tactic(auto)]
+
 ghost use Rattle.std.specs.Prelude.{◌≡◌, ℕ, ◌+◌, ◌-◌, ◌*◌, ◌<◌, ◌≤◌, true, not, ◌&&◌, leb, length};
 ghost use Rattle.loops.specs.Loops.{first as first_of, some, fold};
 ghost use Rattle.slots.specs.Slots.{same_slot};
@@ -141,7 +144,7 @@ fn place_of(rec: [Rec; NREC], idx: usize) -> Found
 }
 
 // What the host slots of a sector leave: whether one changed, and the records then.
-#[derive(Drop)]
+#[derive(Clone, Copy)]
 struct Kept {
     any: bool,
     rec: [Rec; NREC],
@@ -180,7 +183,7 @@ fn keep_all(rec: [Rec; NREC], s: u32, g: &[u8], d: &[u8]) -> Kept
 }
 
 // How a root sector was judged: the refusal number, 0 where it was taken; whether that opens the session; the records then.
-#[derive(Drop)]
+#[derive(Clone, Copy)]
 pub struct RootJudged {
     pub no: u8,
     pub changed: bool,

@@ -1,4 +1,7 @@
 // Which host slots of the root are admitted, and the strict name.
+
+#![tactic(auto)]
+
 ghost use Rattle.std.specs.Prelude.{◌≡◌, ℕ, ◌+◌, ◌<◌, ◌≤◌, not, ◌&&◌, leb, length};
 ghost use Rattle.bits.specs.Bit.{bit};
 ghost use Rattle.slots.specs.Slots.{attr_of, size_of, update_name};
@@ -17,7 +20,7 @@ pub const MAX_UPDATE: u32 = 638988;
 
 // The refusal number of the strict name, 0 where there is none, and whether the name is housekeeping.
 #[repr(C)]
-#[derive(Drop)]
+#[derive(Clone, Copy)]
 pub struct Strict {
     pub no: u8,
     pub housekeeping: bool,

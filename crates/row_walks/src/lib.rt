@@ -1,5 +1,8 @@
 // Thin walks of the lent table to one row: the file that a directory sector asks for, the last that starts at or before a cluster, the first that
 // is handed, and one id read or stored.
+
+#![tactic(auto)]
+
 mod search;
 
 ghost use Rattle.std.specs.Prelude.{◌≡◌};

@@ -1,4 +1,7 @@
 // What is read of a sector's bytes.
+
+#![tactic(auto)]
+
 ghost use Rattle.std.specs.Prelude.{◌≡◌, ℕ, ◌+◌, ◌<◌, length, replicate};
 ghost use Rattle.sector.specs.Bytes.{word, word32, same, zeros};
 

@@ -1,4 +1,7 @@
 // The calls of a session over the table by its columns, or by one row of it. Of more than 400 files there are none, and each call answers 10.
+
+#![tactic(auto)]
+
 ghost use Rattle.std.specs.Prelude.{false, ◌≡◌, take};
 ghost use Rattle.files.specs.Files.{rows_taken};
 ghost use Rattle.release.specs.Release.{release_call, release_all_call};
@@ -17,7 +20,7 @@ use vdisk::ids::{GONE, is_handed};
 
 // What a call that may end the session answers: the refusal number; 0 where no release was due, 1 where one ran to its end, 2 where it was put
 // off; whether there was anything to release.
-#[derive(Drop)]
+#[derive(Clone, Copy)]
 pub struct EndAnswer {
     pub no: u8,
     pub ended: u8,
@@ -26,14 +29,14 @@ pub struct EndAnswer {
 
 // What is written beside the number where the caller lends the room: a small struct that is handed back passes differently on 32-bit machines.
 #[repr(C)]
-#[derive(Drop)]
+#[derive(Clone, Copy)]
 pub struct End {
     pub ended: u8,
     pub had: bool,
 }
 
 // The answer with the state and the ids then.
-#[derive(Drop)]
+#[derive(Clone, Copy)]
 pub struct Closed {
     pub answer: EndAnswer,
     pub w: W,
@@ -41,7 +44,7 @@ pub struct Closed {
 }
 
 // What a report answers: the number, and which row gets which id, counted from 1, 0 where none does.
-#[derive(Drop)]
+#[derive(Clone, Copy)]
 pub struct Reported {
     pub no: u8,
     pub n: usize,
@@ -50,14 +53,14 @@ pub struct Reported {
 
 // Is a file handed, and its row, 0 where none is.
 #[repr(C)]
-#[derive(Drop)]
+#[derive(Clone, Copy)]
 pub struct Handed {
     pub found: bool,
     pub row: usize,
 }
 
 // ... with the refusal number (10).
-#[derive(Drop)]
+#[derive(Clone, Copy)]
 pub struct HandedAnswer {
     pub no: u8,
     pub found: bool,

@@ -9,7 +9,7 @@ use state::w::{W, initial_state};
 pub const ROWS: usize = 401;
 
 // The file table by columns: the first `n` rows count.
-#[derive(Drop)]
+#[derive(Clone, Copy)]
 pub struct Table {
     pub n: usize,
     pub ids: [u16; ROWS],
@@ -19,7 +19,7 @@ pub struct Table {
 }
 
 // The medium: how many entries and bytes of what the program lends it has, and how many of these a call is lent.
-#[derive(Drop)]
+#[derive(Clone, Copy)]
 pub struct Medium {
     pub entries: usize,
     pub bytes: usize,
@@ -27,7 +27,7 @@ pub struct Medium {
     pub lent_bytes: usize,
 }
 
-#[derive(Drop)]
+#[derive(Clone, Copy)]
 pub struct Session {
     pub w: W,
     pub t: Table,
@@ -36,7 +36,7 @@ pub struct Session {
 
 // What a line says: nothing; a call's number; that of a call that may end the session, with how it ended and whether there was anything to
 // release; or that it is bad.
-#[derive(Drop)]
+#[derive(Clone, Copy)]
 pub enum Said {
     Nothing,
     Number(u8),
@@ -44,7 +44,7 @@ pub enum Said {
     Bad,
 }
 
-#[derive(Drop)]
+#[derive(Clone, Copy)]
 pub struct Step {
     pub said: Said,
     pub s: Session,

@@ -1,4 +1,7 @@
 // The calls that make a session.
+
+#![tactic(auto)]
+
 pub mod gone;
 pub mod mode;
 pub mod poll;

@@ -11,7 +11,7 @@ use state::w::{NPAIR, Pair};
 use vdisk::drive::{Place, place_of};
 
 // Is it so judged; the refusal number, 0 where the sector is taken; whether that opens the session; the boot byte and the records then.
-#[derive(Drop)]
+#[derive(Clone, Copy)]
 pub struct Fate {
     pub settled: bool,
     pub no: u8,

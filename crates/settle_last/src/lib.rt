@@ -1,4 +1,7 @@
 // Sectors that neither stage data nor mark files, settled by the table's last file.
+
+#![tactic(auto)]
+
 pub mod fate;
 pub mod root;
 
@@ -13,7 +16,7 @@ use tally::judged::is_judged;
 use tally::tally;
 
 // Is the sector settled; the refusal number, 0 where it is taken; and the fields of the state that such a sector may change.
-#[derive(Drop)]
+#[derive(Clone, Copy)]
 pub struct Settled {
     pub settled: bool,
     pub no: u8,

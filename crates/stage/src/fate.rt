@@ -8,7 +8,7 @@ use state::w::St;
 
 // How a sector was staged in a slot: the refusal number, 0 where it was taken; whether it was staged, which opens the session and adds to the
 // version; whether staging starts or goes on, and where the search for a free block does; the slot then.
-#[derive(Drop)]
+#[derive(Clone, Copy)]
 pub struct Fate {
     pub no: u8,
     pub changed: bool,
@@ -18,7 +18,7 @@ pub struct Fate {
 }
 
 // What it leaves of the state besides the slot and the hint.
-#[derive(Drop)]
+#[derive(Clone, Copy)]
 pub struct Kept {
     pub staging: bool,
     pub stage_t: u64,

@@ -1,4 +1,7 @@
 // A sector of a host cluster is staged.
+
+#![tactic(auto)]
+
 pub mod fate;
 pub mod slot;
 

@@ -80,7 +80,7 @@ pub fn start_hint(staging: bool, hint: u32) -> u32
 }
 
 // Whether a sector goes to a slot, and the number where it doesn't; the slot's place and what it has, a claimed one nothing but the cluster.
-#[derive(Drop)]
+#[derive(Clone, Copy)]
 pub struct SlotFor {
     pub found: bool,
     pub no: u8,

@@ -15,7 +15,7 @@ use write::early::Early;
 use write::lent::whole_sectors;
 
 // Is the sector decided, and which sector of which cluster it is.
-#[derive(Drop)]
+#[derive(Clone, Copy)]
 pub struct Here {
     pub settled: bool,
     pub c: u32,

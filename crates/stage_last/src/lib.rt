@@ -1,4 +1,7 @@
 // Data sectors that the table's last file decides: staged in a host cluster, or refused.
+
+#![tactic(auto)]
+
 pub mod data;
 pub mod marks;
 pub mod own;
@@ -18,7 +21,7 @@ use tally::tally;
 
 // Is the sector settled; the refusal number, 0 where it is taken; are files that the data names to be marked; the staging slot `i` that becomes
 // `y`; and the other fields of the state that such a sector may change.
-#[derive(Drop)]
+#[derive(Clone, Copy)]
 pub struct StagedLast {
     pub settled: bool,
     pub no: u8,

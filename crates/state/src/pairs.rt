@@ -8,7 +8,7 @@ use crate::w::{BPC, NPAIR, Pair, St, W};
 use loops::Found;
 
 // The host's FAT entry of a cluster, if it wrote one.
-#[derive(Drop)]
+#[derive(Clone, Copy)]
 pub enum PairOf {
     Value(u16),
     NoPair,

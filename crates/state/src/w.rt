@@ -15,7 +15,7 @@ pub const SPB: u32 = 8;
 
 // The host's FAT entry of a cluster; cluster 0 where the place is not in use.
 #[repr(C)]
-#[derive(Drop)]
+#[derive(Clone, Copy)]
 pub struct Pair {
     pub c: u16,
     pub v: u16,
@@ -24,7 +24,7 @@ pub struct Pair {
 // A staged cluster, 0 where the slot is not in use: linked into the update file, the parked blocks (by bit), the sectors written (by bit), and
 // the medium's block of each eighth of it, 0 where none is held.
 #[repr(C)]
-#[derive(Drop)]
+#[derive(Clone, Copy)]
 pub struct St {
     pub c: u16,
     pub sealed: bool,
@@ -35,7 +35,7 @@ pub struct St {
 
 // The last update file decided: root slot, start, size, and the version of what was staged.
 #[repr(C)]
-#[derive(Drop)]
+#[derive(Clone, Copy)]
 pub struct Done {
     pub slot: u16,
     pub start: u16,
@@ -44,7 +44,7 @@ pub struct Done {
 }
 
 #[repr(C)]
-#[derive(Drop)]
+#[derive(Clone, Copy)]
 pub struct Stats {
     pub ok: u32,
     pub refused: u32,
@@ -56,7 +56,7 @@ pub struct Stats {
 }
 
 #[repr(C)]
-#[derive(Drop)]
+#[derive(Clone, Copy)]
 pub struct W {
     // Writing is on, and is asked for at the next bus reset.
     pub rw: bool,
@@ -93,7 +93,7 @@ pub struct W {
 }
 
 // How a sector was judged: the refusal number, 0 where it was taken; whether that opens the session; the state then.
-#[derive(Drop)]
+#[derive(Clone, Copy)]
 pub struct Judged {
     pub no: u8,
     pub changed: bool,
@@ -101,7 +101,7 @@ pub struct Judged {
 }
 
 // What a call answers: the refusal number, 0 where it was taken, and the state then.
-#[derive(Drop)]
+#[derive(Clone, Copy)]
 pub struct Answer {
     pub no: u8,
     pub w: W,

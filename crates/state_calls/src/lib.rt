@@ -1,5 +1,8 @@
 // The calls that only read, of the state's arrays and the table's columns by value. What an exported call answers beside its
 // number goes through references, since a returned struct passes differently on 32-bit machines.
+
+#![tactic(auto)]
+
 ghost use Rattle.std.specs.Prelude.{◌≡◌};
 ghost use Rattle.records.specs.Records.{root_rec};
 ghost use Rattle.vdisk.specs.Drive.{dir_kind_of};
@@ -20,21 +23,21 @@ use vdisk::drive::DirKind;
 use vdisk::owner::{Own, rising};
 
 // The host's FAT entry of a cluster: is there one, and its value, 0 where there is none.
-#[derive(Drop)]
+#[derive(Clone, Copy)]
 pub struct PairAnswer {
     pub found: bool,
     pub v: u16,
 }
 
 // The directory that a cluster is: is it one, and its file kind, 0 where it is none.
-#[derive(Drop)]
+#[derive(Clone, Copy)]
 pub struct DirAnswer {
     pub found: bool,
     pub kind: u16,
 }
 
 // Who owns a cluster: the refusal number, 0 where there is none; then as in OwnRow.
-#[derive(Drop)]
+#[derive(Clone, Copy)]
 pub struct OwnAnswer {
     pub no: u8,
     pub owner: u8,
@@ -43,7 +46,7 @@ pub struct OwnAnswer {
 
 // The owner of a cluster, 0 Reserved, 1 Fixed, 2 a file, 3 Free; and the file's row, 0 where it is no file's.
 #[repr(C)]
-#[derive(Drop)]
+#[derive(Clone, Copy)]
 pub struct OwnRow {
     pub owner: u8,
     pub row: usize,

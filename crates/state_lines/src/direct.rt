@@ -21,7 +21,7 @@ pub fn pair(s: Session, line: &[u8], at: usize) -> Step {
     with_state(s, w)
 }
 
-#[derive(Drop)]
+#[derive(Clone, Copy)]
 struct HeldBlocks {
     read: Read,
     blk: [u16; BPC],

@@ -4,7 +4,7 @@ use lines::words::{is_word, word_end};
 use session_lines::session::{Session, Step, bad, with_state};
 use state::w::W;
 
-#[derive(Drop)]
+#[derive(Clone, Copy)]
 enum Width {
     Time,
     Count,

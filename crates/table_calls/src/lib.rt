@@ -1,4 +1,7 @@
 // The calls over the table by its columns.
+
+#![tactic(auto)]
+
 ghost use Rattle.std.specs.Prelude.{◌≡◌, take};
 ghost use Rattle.files.specs.Files.{rows_taken};
 ghost use Rattle.table_calls.specs.Calls.{too_many, columns_written};
@@ -10,7 +13,7 @@ use write::lent::whole_sectors;
 use write::write;
 
 // What a call answers that may mark files: the number, the state and the ids then.
-#[derive(Drop)]
+#[derive(Clone, Copy)]
 pub struct Marked {
     pub no: u8,
     pub w: W,

@@ -8,7 +8,7 @@ use lines::digits::{from, number, whole};
 use session_lines::session::{ROWS, Said, Session, Step, Table, bad};
 use sessions::gone::report_gone;
 
-#[derive(Drop)]
+#[derive(Clone, Copy)]
 struct Reported {
     no: u8,
     t: Table,

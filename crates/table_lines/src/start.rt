@@ -7,7 +7,7 @@ use lines::digits::{Read, from, number};
 use session_lines::session::{ROWS, Said, Session, Step, Table, bad, no_files};
 use state::w::{Answer, W};
 
-#[derive(Drop)]
+#[derive(Clone, Copy)]
 struct File {
     read: Read,
     id: u16,
@@ -51,7 +51,7 @@ fn with_row(t: Table, r: File) -> Table
     out
 }
 
-#[derive(Drop)]
+#[derive(Clone, Copy)]
 struct Files {
     ok: bool,
     t: Table,

@@ -1,4 +1,7 @@
 // Thin walks of the lent table: its last file, and the marks of files that staged data names.
+
+#![tactic(auto)]
+
 ghost use Rattle.std.specs.Prelude.{◌≡◌};
 ghost use Rattle.table_walks.specs.Walks.{last_of, noted_files};
 

@@ -1,4 +1,7 @@
 // What a judged sector leaves in the session flag, the last time, the error and the counts.
+
+#![tactic(auto)]
+
 pub mod judged;
 pub mod refused;
 
@@ -8,7 +11,7 @@ ghost use Rattle.tally.specs.Tally.{tallied};
 use state::w::Stats;
 use write::settle::error_of;
 
-#[derive(Drop)]
+#[derive(Clone, Copy)]
 pub struct Tallied {
     pub session: bool,
     pub last: u64,

@@ -6,7 +6,7 @@ use crate::tally;
 use state::w::Stats;
 
 // Is the sector refused; the refusal number; the error and the counts then.
-#[derive(Drop)]
+#[derive(Clone, Copy)]
 pub struct Refused {
     pub refused: bool,
     pub no: u8,

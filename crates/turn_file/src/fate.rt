@@ -10,7 +10,7 @@ use state::w::{NST, St};
 use vdisk::drive::{DirKind, Place, dir_kind, place_of};
 
 // Is it so judged; the refusal number, 0 where the sector is taken; whether that opens the session; the file's id then.
-#[derive(Drop)]
+#[derive(Clone, Copy)]
 pub struct Fate {
     pub settled: bool,
     pub no: u8,

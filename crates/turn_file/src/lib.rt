@@ -1,4 +1,7 @@
 // Sectors of the generated directories that turn one file at most, judged with that file alone.
+
+#![tactic(auto)]
+
 pub mod fate;
 pub mod turns;
 
@@ -16,14 +19,14 @@ use vdisk::ids::{TURNED, id_dir};
 use write::lent::whole_sectors;
 
 // The directory and slot that a sector asks for: those of its first turned slot; of no file where it has none.
-#[derive(Drop)]
+#[derive(Clone, Copy)]
 pub struct Asked {
     pub k: u16,
     pub n: u32,
 }
 
 // Is it settled; the refusal number, 0 where the sector is taken; the file's id then; and the fields of the state that such a sector may change.
-#[derive(Drop)]
+#[derive(Clone, Copy)]
 pub struct TurnedFile {
     pub settled: bool,
     pub no: u8,

@@ -22,7 +22,7 @@ pub const DATA_START: u32 = 541;
 pub const TOTAL: u32 = 4160541;
 
 // Where a sector lies: a sector of the FAT, of the root, of a cluster, or past the drive's end.
-#[derive(Drop)]
+#[derive(Clone, Copy)]
 pub enum Place {
     Boot,
     Fat(u32),
@@ -51,7 +51,7 @@ pub fn place_of(lba: u32) -> Place
 }
 
 // The generated directory that a cluster is, by file kind; 3 for INFO and DEBUG.
-#[derive(Drop)]
+#[derive(Clone, Copy)]
 pub enum DirKind {
     Kind(u16),
     NoDir,

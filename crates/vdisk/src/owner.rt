@@ -6,7 +6,7 @@ ghost use Rattle.vdisk.specs.Owner.{up_to, owner_at, owner_of, rises};
 use crate::drive::{CLUSTERS, nclus};
 
 // Reserved entries, a fixed cluster, the file of a row, or nobody.
-#[derive(Drop)]
+#[derive(Clone, Copy)]
 pub enum Own {
     Reserved,
     Fixed,

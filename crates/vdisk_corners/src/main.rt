@@ -1,4 +1,7 @@
 // Prints what the lookups of `vdisk` answer at the corners that document 01 names and at those beside them.
+
+#![tactic(auto)]
+
 mod tables;
 
 use vdisk::drive::{DirKind, Place};
@@ -143,7 +146,7 @@ fn owners_unsorted() {
     );
 }
 
-#[derive(Drop)]
+#[derive(Clone, Copy)]
 enum Lookup {
     Nclus,
     Place,

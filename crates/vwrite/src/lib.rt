@@ -1,6 +1,9 @@
 // The calls that a firmware links. Each takes the state or the table that it is lent apart for a proved function over values,
 // and stores what that gives back. Each answers a number and writes the rest through references, since a returned struct passes
 // differently on 32-bit machines.
+
+#![tactic(auto)]
+
 ghost use Rattle.vwrite.specs.Calls.{Writes, ReadsStaged, TellsPair, TellsRecord, TellsBoot, TellsFat1, TellsFrozen};
 ghost use Rattle.vwrite.specs.Calls.{TellsChain, ChecksBody, TellsCrc, TellsStrict, TellsOwner, TellsKind, TellsClusters};
 

@@ -1,4 +1,7 @@
 // What demand 3 asks of the calls, for a program to link that tells why a file is handed.
+
+#![tactic(auto)]
+
 ghost use Rattle.vwrite_reasons.specs.Calls.{TellsNamed, NotesWrite, NotesEnd, NotesGone};
 
 use reasons::{Reason, after_end, after_gone, after_write};

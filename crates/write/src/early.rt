@@ -10,14 +10,14 @@ use state::w::Stats;
 use vdisk::drive::{DirKind, Place, TOTAL, dir_kind, place_of};
 
 // Is the sector settled already, and with which number.
-#[derive(Drop)]
+#[derive(Clone, Copy)]
 pub struct Early {
     pub settled: bool,
     pub no: u8,
 }
 
 // The three fields of the state that a settled sector may change.
-#[derive(Drop)]
+#[derive(Clone, Copy)]
 pub struct Tally {
     pub last: u64,
     pub err: u8,

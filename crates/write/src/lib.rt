@@ -1,4 +1,7 @@
 // `write`: a written sector judged, and what it leaves.
+
+#![tactic(auto)]
+
 pub mod early;
 pub mod lent;
 pub mod settle;

@@ -1,3 +1,6 @@
 // The lines of written sectors.
+
+#![tactic(auto)]
+
 mod sectors;
 pub mod writes;

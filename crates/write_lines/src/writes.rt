@@ -9,7 +9,7 @@ use lines::digits::{from, number, whole};
 use session_lines::session::{Said, Session, Step, Table, bad, can_lend};
 use state::w::W;
 
-#[derive(Drop)]
+#[derive(Clone, Copy)]
 struct Written {
     no: u8,
     w: W,
