@@ -1,0 +1,11 @@
+use Prim.Native.Nat.{◌≤◌, ◌-◌}
+use mathlib.Core.Path.{◌≡◌}
+use Rattle.loops.specs.Found.{find, find_from}
+use Rattle.records.specs.Records.{max_records, rec_here}
+use Rattle.records.proofs.rec_idx.Given as goal
+
+abbrev pub invariant-loop-i : goal.invariant-loop-i
+invariant-loop-i l = (l.i ≤ max_records) × (find (rec_here l.rec l.idx) max_records ≡ find_from (rec_here l.rec l.idx) max_records l.i)
+
+abbrev pub decreases-loop-i : goal.decreases-loop-i
+decreases-loop-i l = max_records - l.i
