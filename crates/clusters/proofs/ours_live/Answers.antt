@@ -1,0 +1,11 @@
+use mathlib.Core.Path.{sym, ◌∙◌}
+use Rattle.clusters.specs.Clusters.{is_live}
+use Rattle.clusters.proofs.ours_live.Goals as goal
+
+pub returns-then-test_u16 : goal.returns-then-test_u16
+unfolding is_live
+returns-then-test_u16 c = simp (sym c.test_u16.ensures ∙ c.if-test_u16.true)
+
+pub returns : goal.returns
+unfolding is_live
+returns c = simp (sym c.test_u16.ensures ∙ c.if-test_u16.false, ← c.pair_idx.ensures) c.is_nothing.ensures

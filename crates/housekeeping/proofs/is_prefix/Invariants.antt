@@ -1,0 +1,11 @@
+use Prim.Native.Nat.{◌-◌, ◌≤◌}
+use mathlib.Core.Path.{◌≡◌}
+use Rattle.housekeeping.specs.Housekeeping.{is_prefix}
+use Rattle.housekeeping.specs.PrefixLaws.{cut, prefix_from}
+use Rattle.housekeeping.proofs.is_prefix.Given as goal
+
+abbrev pub invariant-loop-i : goal.invariant-loop-i
+invariant-loop-i l = (is_prefix (cut l.at l.end) l.name ≡ prefix_from l.at l.end l.name l.i) × (l.at ≤ l.i) × (l.i ≤ l.end)
+
+abbrev pub decreases-loop-i : goal.decreases-loop-i
+decreases-loop-i l = l.end - l.i

@@ -1,0 +1,14 @@
+use Rattle.names.specs.Held.{held}
+use Rattle.names.specs.TextLaws.{push-room, short-plain, short-dotted}
+use lib.ListN.{take}
+use mathlib.Core.Path.{refl}
+use native.Mathlib.Omega.{arith}
+use Rattle.names.proofs.text.short_text.Goals as goal
+
+pub returns-then-d-dot-eq32 : goal.returns-then-d-dot-eq32
+unfolding held
+returns-then-d-dot-eq32 c = let p = c.put_part-n.ensures in (p.room.0, short-plain _ _ _ p.text c.if-d-dot-eq32.true)
+
+pub returns : goal.returns
+unfolding held
+returns c = let p = c.put_part-n.ensures in (c.put_part-m.ensures.room.0, short-dotted _ _ (take c.put_part-n.result c.put_part-n.new.chars) p.text _ _ c.if-d-dot-eq32.false (push-room _ _ p.room.2 p.room.0 _ _ refl (omega arith)) c.put_part-m.ensures.text)
