@@ -1,0 +1,28 @@
+use mathlib.Core.Path.{sym, ◌∙◌}
+use native.Mathlib.Omega.{arith}
+use Rattle.vdisk.specs.OwnerLaws.{owner-is}
+use Rattle.fat_sectors.specs.FatLaws.{marked_owner}
+use borrow.Author.Rules.{rules}
+use Rattle.fat_sectors.proofs.sectors.is_freed.Goals as goal
+
+pub owner-requires : goal.owner-requires
+owner-requires c = record { lengths = search rules; rising = search rules }
+
+pub bounds-rows-j : goal.bounds-rows-j
+bounds-rows-j c = omega (arith, (owner-is _ _ _ _ _ (sym c.owner.ensures ∙ c.in-Dyn.is)).row, c.requires.lengths.1)
+
+pub returns-in-Reserved : goal.returns-in-Reserved
+unfolding marked_owner
+returns-in-Reserved c = simp (sym c.owner.ensures ∙ c.in-Reserved.is)
+
+pub returns-in-Fixed : goal.returns-in-Fixed
+unfolding marked_owner
+returns-in-Fixed c = simp (sym c.owner.ensures ∙ c.in-Fixed.is)
+
+pub returns-in-Dyn : goal.returns-in-Dyn
+unfolding marked_owner
+returns-in-Dyn c = simp (sym c.owner.ensures ∙ c.in-Dyn.is)
+
+pub returns-in-Free : goal.returns-in-Free
+unfolding marked_owner
+returns-in-Free c = simp (sym c.owner.ensures ∙ c.in-Free.is)
