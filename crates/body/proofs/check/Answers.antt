@@ -46,11 +46,8 @@ decode_block-requires c = tt
 
 pub returns-then-not-decode_block : goal.returns-then-not-decode_block
 returns-then-not-decode_block c =
-    let x = c.loop-q in
-    let m = c.min_u32 in
-    let r = c.read_first in
-    let k : x.q % 4 * 128 + m.result - x.q % 4 * 128 ≡ min (c.args.size - x.q * 128) 128 = omega (arith, m.ensures) in
-    check-stop _ _ _ _ _ c.requires.1 _ _ _ x.invariant.2 c.loop-q-test.true _ r.ensures _ k (sym c.decode_block.ensures.answer ∙ c.if-not-decode_block.true)
+    let k : c.loop-q.q % 4 * 128 + c.min_u32.result - c.loop-q.q % 4 * 128 ≡ min (c.args.size - c.loop-q.q * 128) 128 = omega (arith, c.min_u32.ensures) in
+    check-stop _ _ _ _ _ c.requires.1 _ _ _ c.loop-q.invariant.2 c.loop-q-test.true _ c.read_first.ensures _ k (sym c.decode_block.ensures.answer ∙ c.if-not-decode_block.true)
 
 pub slice_bounds-summed_up-count : goal.slice_bounds-summed_up-count
 slice_bounds-summed_up-count c = omega (arith, c.min_u32.ensures)
@@ -60,24 +57,18 @@ slice_bounds-summed_up-start c = omega (arith, c.min_u32.ensures)
 
 pub slice_bounds-summed_up-end : goal.slice_bounds-summed_up-end
 slice_bounds-summed_up-end c =
-    let x = c.loop-q in
-    let m = c.min_u32 in
-    let r = c.read_first in
-    let k : x.q % 4 * 128 + m.result - x.q % 4 * 128 ≡ min (c.args.size - x.q * 128) 128 = omega (arith, m.ensures) in
-    let n : length r.new.1.1.1.1.0 ≡ 512 = omega (arith, x.invariant.1) in
-    omega (arith, m.ensures, put-length _ _ _ _ _ c.requires.1 _ _ _ x.invariant.2 c.loop-q-test.true _ r.ensures _ k _ c.decode_block.ensures.bytes n)
+    let k : c.loop-q.q % 4 * 128 + c.min_u32.result - c.loop-q.q % 4 * 128 ≡ min (c.args.size - c.loop-q.q * 128) 128 = omega (arith, c.min_u32.ensures) in
+    let n : length c.read_first.new.sec ≡ 512 = omega (arith, c.loop-q.invariant.1) in
+    omega (arith, c.min_u32.ensures, put-length _ _ _ _ _ c.requires.1 _ _ _ c.loop-q.invariant.2 c.loop-q-test.true _ c.read_first.ensures _ k _ c.decode_block.ensures.bytes n)
 
 pub overflow_mul-q-in-loop-q : goal.overflow_mul-q-in-loop-q
 overflow_mul-q-in-loop-q c = let h = c.requires.1 in omega (arith, h.most, h.fits, c.loop-q-test.true)
 
 pub summed_up-sum-requires : goal.summed_up-sum-requires
 summed_up-sum-requires c =
-    let x = c.loop-q in
-    let m = c.min_u32 in
-    let r = c.read_first in
-    let k : x.q % 4 * 128 + m.result - x.q % 4 * 128 ≡ min (c.args.size - x.q * 128) 128 = omega (arith, m.ensures) in
-    let n : length r.new.1.1.1.1.0 ≡ 512 = omega (arith, x.invariant.1) in
-    head-inside _ _ _ _ _ c.requires.1 _ _ _ x.invariant.2 c.loop-q-test.true _ r.ensures _ k _ c.decode_block.ensures.bytes n c.requires.0
+    let k : c.loop-q.q % 4 * 128 + c.min_u32.result - c.loop-q.q % 4 * 128 ≡ min (c.args.size - c.loop-q.q * 128) 128 = omega (arith, c.min_u32.ensures) in
+    let n : length c.read_first.new.sec ≡ 512 = omega (arith, c.loop-q.invariant.1) in
+    head-inside _ _ _ _ _ c.requires.1 _ _ _ c.loop-q.invariant.2 c.loop-q-test.true _ c.read_first.ensures _ k _ c.decode_block.ensures.bytes n c.requires.0
 
 pub overflow_add-q : goal.overflow_add-q
 overflow_add-q c = let h = c.requires.1 in omega (arith, h.most, h.fits, c.loop-q-test.true)
@@ -87,15 +78,12 @@ loop-q-smaller c = omega (arith, c.loop-q-test.true)
 
 pub loop-q-preserved : goal.loop-q-preserved
 loop-q-preserved c =
-    let x = c.loop-q in
-    let m = c.min_u32 in
-    let r = c.read_first in
-    let k : x.q % 4 * 128 + m.result - x.q % 4 * 128 ≡ min (c.args.size - x.q * 128) 128 = omega (arith, m.ensures) in
-    let n : length r.new.1.1.1.1.0 ≡ 512 = omega (arith, x.invariant.1) in (
+    let k : c.loop-q.q % 4 * 128 + c.min_u32.result - c.loop-q.q % 4 * 128 ≡ min (c.args.size - c.loop-q.q * 128) 128 = omega (arith, c.min_u32.ensures) in
+    let n : length c.read_first.new.sec ≡ 512 = omega (arith, c.loop-q.invariant.1) in (
       omega (arith, c.loop-q-test.true),
-      put-length _ _ _ _ _ c.requires.1 _ _ _ x.invariant.2 c.loop-q-test.true _ r.ensures _ k _ c.decode_block.ensures.bytes n,
-      check-more _ _ _ _ _ c.requires.1 _ _ _ x.invariant.2 c.loop-q-test.true _ r.ensures _ k _ c.decode_block.ensures.bytes n (sym c.decode_block.ensures.answer ∙ c.if-not-decode_block.false) _
-          (rw (← part-back _ _ _ _ _ c.requires.1 _ _ _ x.invariant.2 c.loop-q-test.true _ r.ensures _ k _ c.decode_block.ensures.bytes n) c.summed_up-sum.ensures),
+      put-length _ _ _ _ _ c.requires.1 _ _ _ c.loop-q.invariant.2 c.loop-q-test.true _ c.read_first.ensures _ k _ c.decode_block.ensures.bytes n,
+      check-more _ _ _ _ _ c.requires.1 _ _ _ c.loop-q.invariant.2 c.loop-q-test.true _ c.read_first.ensures _ k _ c.decode_block.ensures.bytes n (sym c.decode_block.ensures.answer ∙ c.if-not-decode_block.false) _
+          (rw (← part-back _ _ _ _ _ c.requires.1 _ _ _ c.loop-q.invariant.2 c.loop-q-test.true _ c.read_first.ensures _ k _ c.decode_block.ensures.bytes n) c.summed_up-sum.ensures),
     )
 
 pub overflow_sub-size-2 : goal.overflow_sub-size-2

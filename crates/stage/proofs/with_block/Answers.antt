@@ -27,7 +27,7 @@ returns-then-not-f c = meets-by (free-none _ _ _ _ _ _ c.next_free-f.result (sym
 
 -- src/lib.rt:103:5
 pub into_block-requires-2 : goal.into_block-requires-2
-into_block-requires-2 c = record { lent = c.requires.lent; inside = λ e. rw c.next_free-f.ensures (found-inside c.args.fat.now c.args.area.now c.args.hint c.requires.medium (ap (λ (n : NextFree). n.found) (sym c.next_free-f.ensures) ∙ c.if-not-f.false)) }
+into_block-requires-2 c = record { lent = c.requires.lent; inside = λ e. rw c.next_free-f.ensures (found-inside c.args.fat.now c.args.area.now c.args.hint c.requires.medium (ap (λ (n : NextFree). n.found) (sym c.next_free-f.ensures) ∙ not-false _ c.if-not-f.false)) }
 
 -- src/lib.rt:84:1
 pub returns : goal.returns

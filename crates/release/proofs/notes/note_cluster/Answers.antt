@@ -1,18 +1,12 @@
 use Prim.Native.Nat.{ℕ, ◌-◌}
-use mathlib.Core.Bool.{Bool}
-use mathlib.Core.List.{List}
 use mathlib.Core.Path.{sym, ◌∙◌, subst}
 use native.Mathlib.Omega.{arith}
 use borrow.Author.Tests.{ne_eqb}
-use Rattle.state.specs.declared.w.St.{St}
 use Rattle.medium.specs.Reads.{sector_of}
-use Rattle.release.specs.Notes.{InTable, listed, by_sector}
+use Rattle.release.specs.Notes.{InTable, by_sector}
 use Rattle.release.specs.NoteLaws.{passed-start, passed-go, passed-end, passes-end, cluster-none, cluster-some}
+use Rattle.release.proofs.notes.note_cluster.Invariants.{names}
 use Rattle.release.proofs.notes.note_cluster.Goals as goal
-
--- row j is listed, and sector s names it
-abbrev names : List ℕ → List ℕ → List ℕ → List ℕ → List ℕ → St → ℕ → ℕ → Bool
-names waiting starts sizes fat area x j s = listed waiting (by_sector starts sizes (sector_of fat area x s)) j
 
 pub returns-then-x-eq0 : goal.returns-then-x-eq0
 returns-then-x-eq0 c = cluster-none c.args.waiting.now c.args.starts.now c.args.sizes.now c.args.ids.now c.args.fat.now c.args.area.now c.args.x c.if-x-eq0.true

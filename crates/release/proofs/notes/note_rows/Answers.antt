@@ -1,20 +1,14 @@
-use Prim.Native.Nat.{ℕ, ◌-◌}
-use mathlib.Core.Bool.{Bool, ◌&&◌}
-use mathlib.Core.List.{List}
+use Prim.Native.Nat.{◌-◌}
 use mathlib.Core.Path.{◌∙◌, ap}
-use lib.Dec.{eqb}
 use lib.ListN.{length, get_or, set}
 use native.Mathlib.Omega.{arith}
 use Rattle.release.specs.Notes.{has_file}
 use Rattle.release.specs.NoteLaws.{passed-start, passed-go, passed-end, set-noted, listed-end}
+use Rattle.release.proofs.notes.note_rows.Invariants.{names}
 use Rattle.release.proofs.notes.note_rows.Goals as goal
 
--- the k-th of the list is row j, which has that start and length
-abbrev names : List ℕ → List ℕ → List ℕ → ℕ → ℕ → ℕ → ℕ → Bool
-names starts sizes waiting start size j k = eqb (get_or waiting k 0) j && has_file starts sizes start size j
-
 pub loop-k-init : goal.loop-k-init
-loop-k-init c = (omega arith, passed-start (names c.args.starts.now c.args.sizes.now c.args.waiting.now c.args.slot-start c.args.slot-size) c.args.ids.now)
+loop-k-init c = (omega arith, passed-start (names c.args.starts.now c.args.sizes.now c.args.waiting.now c.args.slot_start c.args.slot_size) c.args.ids.now)
 
 pub overflow_cast-j : goal.overflow_cast-j
 overflow_cast-j c = let h = c.requires.2 c.loop-k.k c.loop-k-test.true in omega arith
@@ -47,7 +41,7 @@ pub bounds-ids-j-in-loop-k : goal.bounds-ids-j-in-loop-k
 bounds-ids-j-in-loop-k c = let h = c.requires.2 c.loop-k.k c.loop-k-test.true in omega arith
 
 pub loop-k-preserved : goal.loop-k-preserved
-loop-k-preserved c = let h = c.requires.2 c.loop-k.k c.loop-k-test.true in (omega arith, passed-go (names c.args.starts.now c.args.sizes.now c.args.waiting.now c.args.slot-start c.args.slot-size) c.args.ids.now c.loop-k.k c.loop-k.ids _ c.loop-k.invariant.1 (ap (set c.loop-k.ids (get_or c.args.waiting.now c.loop-k.k 0)) c.note_row-id.ensures ∙ set-noted (has_file c.args.starts.now c.args.sizes.now c.args.slot-start c.args.slot-size) c.loop-k.ids (get_or c.args.waiting.now c.loop-k.k 0) (omega arith)))
+loop-k-preserved c = let h = c.requires.2 c.loop-k.k c.loop-k-test.true in (omega arith, passed-go (names c.args.starts.now c.args.sizes.now c.args.waiting.now c.args.slot_start c.args.slot_size) c.args.ids.now c.loop-k.k c.loop-k.ids _ c.loop-k.invariant.1 (ap (set c.loop-k.ids (get_or c.args.waiting.now c.loop-k.k 0)) c.note_row-id.ensures ∙ set-noted (has_file c.args.starts.now c.args.sizes.now c.args.slot_start c.args.slot_size) c.loop-k.ids (get_or c.args.waiting.now c.loop-k.k 0) (omega arith)))
 
 pub returns : goal.returns
-returns c = passed-end (names c.args.starts.now c.args.sizes.now c.args.waiting.now c.args.slot-start c.args.slot-size) c.args.ids.now c.loop-k.k (length c.args.waiting.now) c.loop-k.ids (omega arith) c.loop-k.invariant.1 ∙ listed-end c.args.waiting.now (has_file c.args.starts.now c.args.sizes.now c.args.slot-start c.args.slot-size) c.args.ids.now
+returns c = passed-end (names c.args.starts.now c.args.sizes.now c.args.waiting.now c.args.slot_start c.args.slot_size) c.args.ids.now c.loop-k.k (length c.args.waiting.now) c.loop-k.ids (omega arith) c.loop-k.invariant.1 ∙ listed-end c.args.waiting.now (has_file c.args.starts.now c.args.sizes.now c.args.slot_start c.args.slot_size) c.args.ids.now

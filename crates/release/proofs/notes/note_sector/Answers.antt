@@ -1,16 +1,11 @@
 use Prim.Native.Nat.{ℕ, ◌-◌, ◌*◌}
-use mathlib.Core.Bool.{Bool}
-use mathlib.Core.List.{List}
 use mathlib.Core.Path.{sym, ◌∙◌, subst}
 use native.Mathlib.Omega.{arith}
 use Rattle.slots.specs.Slots.{refers_to}
-use Rattle.release.specs.Notes.{InTable, listed, by_slot}
+use Rattle.release.specs.Notes.{InTable, by_slot}
 use Rattle.release.specs.NoteLaws.{passed-start, passed-go, passed-end, passes-end}
+use Rattle.release.proofs.notes.note_sector.Invariants.{names}
 use Rattle.release.proofs.notes.note_sector.Goals as goal
-
--- row j is listed, and slot i names it
-abbrev names : List ℕ → List ℕ → List ℕ → List ℕ → ℕ → ℕ → Bool
-names waiting starts sizes d j i = listed waiting (by_slot starts sizes d (i * 32)) j
 
 pub loop-k-init : goal.loop-k-init
 loop-k-init c = (omega arith, passed-start (names c.args.waiting.now c.args.starts.now c.args.sizes.now c.args.d.now) c.args.ids.now)

@@ -1,6 +1,13 @@
-use Prim.Native.Nat.{◌≤◌, ◌-◌}
+use Prim.Native.Nat.{ℕ, ◌≤◌, ◌-◌, ◌*◌}
+use mathlib.Core.Bool.{Bool}
+use mathlib.Core.List.{List}
+use Rattle.release.specs.Notes.{listed, by_slot}
 use Rattle.release.specs.NoteLaws.{Passed}
 use Rattle.release.proofs.notes.note_sector.Given as goal
+
+-- row j is listed, and slot i names it
+abbrev pub names : List ℕ → List ℕ → List ℕ → List ℕ → ℕ → ℕ → Bool
+names waiting starts sizes d j i = listed waiting (by_slot starts sizes d (i * 32)) j
 
 abbrev pub invariant-loop-k : goal.invariant-loop-k
 invariant-loop-k l = (l.k ≤ 16) × Passed (names l.waiting l.starts l.sizes l.d) l.k l.initial.ids l.ids
