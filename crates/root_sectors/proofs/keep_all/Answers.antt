@@ -63,4 +63,4 @@ loop-i-preserved c = let e = c.next_changed-i-in-loop-i.ensures in
     )
 
 pub returns : goal.returns
-returns c = let v = c.loop-i.invariant.2 in record { any = any-end (kept_slot c.args.s c.args.g.now c.args.d.now) 16 c.loop-i.i _ c.loop-i.auto.any v.any c.loop-i-test.false; records = fold-end _ _ _ _ _ v.kept c.loop-i-test.false }
+returns c = let v = c.loop-i.invariant.2 in record { any = any-end (kept_slot c.args.s c.args.g.now c.args.d.now) 16 c.loop-i.i _ c.loop-i.kept.any v.any c.loop-i-test.false; records = fold-end _ _ _ _ _ v.kept c.loop-i-test.false }

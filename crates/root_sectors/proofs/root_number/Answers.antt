@@ -9,6 +9,7 @@ use Rattle.loops.specs.Skips.{skip-le, skip-ge, skip-at}
 use Rattle.root_sectors.specs.RootLaws.{judging-start, judging-on}
 use Rattle.root_sectors.specs.Root.{needs_rec, kept_at, root_number}
 use Rattle.root_sectors.proofs.root_number.Goals as goal
+use Rattle.root_sectors.proofs.root_number.Goals.{then-needs_rec, else-needs_rec}
 
 pub next_changed-i-requires : goal.next_changed-i-requires
 next_changed-i-requires c = let l = c.requires in (l.shown-512, l.written-512, omega arith)
@@ -40,12 +41,12 @@ loop-i-preserved c = let e = c.next_changed-i-in-loop-i.ensures in
     let ge = skip-ge _ 16 _ _ (omega arith) e in
     let go = first-go _ _ _ _ v.3.refused l (ap not (eq-eqb _ _ (sym c.slot_number-no.ensures ∙ c.if-no-ne0.false))) in (
       skip-le _ 16 _ _ (omega arith) e,
-      ⊎_elim (λ w. omega arith) (λ w. omega arith) c.if-needs_rec.branch,
+      elim c.if-needs_rec.branch [ then-needs_rec w ↦ omega arith | else-needs_rec w ↦ omega arith ],
       skip-at _ 16 _ _ (omega arith) e,
-      judging-on _ _ _ _ (omega arith) e (⊎_elim
-          (λ w. rw w.1 (record { refused = go; needed = count-yes _ _ _ _ _ v.3.needed l (sym c.needs_rec.ensures ∙ w.0.taken) }))
-          (λ w. rw w.1 (record { refused = go; needed = count-no _ _ _ _ _ v.3.needed l (sym c.needs_rec.ensures ∙ w.0.left) }))
-          c.if-needs_rec.branch),
+      judging-on _ _ _ _ (omega arith) e (elim c.if-needs_rec.branch [
+          then-needs_rec w ↦ rw w.need-is (record { refused = go; needed = count-yes _ _ _ _ _ v.3.needed l (sym c.needs_rec.ensures ∙ w.if-needs_rec.true) })
+          | else-needs_rec w ↦ rw w.need-is (record { refused = go; needed = count-no _ _ _ _ _ v.3.needed l (sym c.needs_rec.ensures ∙ w.if-needs_rec.false) })
+          ]),
     )
 
 pub free_recs-requires : goal.free_recs-requires
