@@ -194,7 +194,7 @@ module _ (x : SectorWrite) (w : W) (s : ℕ) (taken : (fat x w s).number ≡ 0) 
         state = r.state;
         fat1-set = λ i l c z. rw q (fat1-sets w f i l (sym (differs-same x w s i) ∙ c) z ∙ ap (λ (v : ℕ). v + 65536) (value-same x w s i));
         fat1 = λ e. r.fat1 (sym (changed-same x w s 1) ∙ e);
-        pair_set = λ h i l c. rw q (sets-as h i l (sym (sets-same x w s i) ∙ c) ∙ ap pair_as (value-same x w s i));
+        pair-set = λ h i l c. rw q (sets-as h i l (sym (sets-same x w s i) ∙ c) ∙ ap pair_as (value-same x w s i));
         pairs = λ k e. r.pairs k (sym (set-same x w s k) ∙ e);
         places = λ n u e. r.places n u (sym (set-same x w s (get_or w.pair n pair0).c) ∙ e);
         freed = λ k j o e. r.freed k j o (frees-same x w s j ∙ e);

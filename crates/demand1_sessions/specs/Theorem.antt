@@ -139,7 +139,7 @@ module _ (files : List VF) (first c : ℕ) where
       (λ e. let l = leb-false (length files) 400 e in rw (lt-ltb 400 (length files) l) (refl, refl))
 
   pub table-reads-well : (found : HandedAnswer) → FindsFile files found → TableReads files first c found
-  table-reads-well found f = record { finder = finder-well found f; none_found = none-well found f; owner = owner-well; unowned = unowned-well }
+  table-reads-well found f = record { finder = finder-well found f; none-found = none-well found f; owner = owner-well; unowned = unowned-well }
 
 pub demand-1-calls : Demand1Calls
 unfolding mode_reset set_read_only
