@@ -1,3 +1,0 @@
--- What the walks by hand use.
-pub mod Last
-pub mod Noted
