@@ -1,9 +1,2 @@
--- What the walks by hand use.
-pub mod Outer
-pub mod Walk
-pub mod Rows
-pub mod Mixed
+-- Lemmas of the loops over rows.
 pub mod Files
-pub mod Turns
-pub mod Lent
-pub mod Locals
