@@ -17,10 +17,8 @@ fn digit(line: &[u8], i: usize) -> u64
 // The number in columns `from` to `end`.
 pub(crate) fn field(line: &[u8], from: usize, end: usize) -> u32 {
     let mut n = 0u64;
-    let mut i = from;
-    while i < end {
+    for i in from..end {
         n = (n * 10 + digit(line, i)) % 4294967296;
-        i += 1;
     }
     n as u32
 }

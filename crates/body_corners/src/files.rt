@@ -28,10 +28,8 @@ pub(crate) fn fill(area: &mut [u8], word1: u32, word2: u32) {
     if area.len() != AREA {
         return;
     }
-    let mut i = 0;
-    while i < AREA {
+    for i in 0..AREA {
         area[place(i)] = stored(i, word1, word2);
-        i += 1;
     }
 }
 

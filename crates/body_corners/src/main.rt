@@ -4,7 +4,6 @@
 // the place of a byte, and the bits of it that are turned; the last cluster's link; how many sectors of the second cluster are staged; the
 // block of the first cluster's last sectors; the start.
 // `#` is a comment.
-
 #![tactic(auto)]
 
 mod fields;
@@ -12,15 +11,21 @@ mod files;
 
 use fields::field;
 use files::{fill, turn};
+use printed::Output;
 use state::w::{Pair, St};
+use std::io;
+use std::io::{Read, Write};
 
-fn text(t: &[u8]) {
-    io::write_all(1, t);
+// No more of the input is read.
+const INPUT_MOST: u64 = 65536;
+
+fn text(out: &mut Output<impl Write>, t: &[u8]) {
+    out.text(t);
 }
 
-fn number(n: u64) {
-    io::write_all(1, b" ");
-    io::print_decimal(1, n);
+fn number(out: &mut Output<impl Write>, n: u64) {
+    out.text(b" ");
+    out.decimal(n);
 }
 
 fn slot(c: u16, map: u64, blk: [u16; 8]) -> St {
@@ -37,7 +42,7 @@ fn sectors_below(n: u32) -> u64 {
     if 64 <= n {
         return 0xFFFFFFFFFFFFFFFF;
     }
-    std::num::wrapping_sub_u64(1 << n, 1)
+    (1u64 << n).wrapping_sub(1)
 }
 
 // Clusters 9 and 10 in slots 27 and 3.
@@ -59,7 +64,7 @@ fn pairs(size: u32, last: u16) -> [Pair; 40] {
     pair
 }
 
-fn check(line: &[u8], area: &[u8]) {
+fn check(out: &mut Output<impl Write>, line: &[u8], area: &[u8]) {
     let size = field(line, 28, 38);
     let last = (field(line, 71, 76) % 65536) as u16;
     let map = sectors_below(field(line, 77, 79));
@@ -73,47 +78,50 @@ fn check(line: &[u8], area: &[u8]) {
         start,
         size,
     );
-    number(b.no as u64);
-    number(b.valid as u64);
-    text(b"\n");
+    number(out, b.no as u64);
+    number(out, b.valid as u64);
+    text(out, b"\n");
 }
 
-fn show(line: &[u8]) {
+fn show(out: &mut Output<impl Write>, line: &[u8]) {
     if line.len() < 28 {
         return;
     }
     if line[0] == b'#' {
         return;
     }
-    text(&line[..28]);
-    let mut area = io::large_buffer();
+    text(out, &line[..28]);
+    let mut area = [0u8; 65536];
     fill(&mut area, field(line, 39, 49), field(line, 50, 60));
     turn(
         &mut area,
         field(line, 61, 66) as usize,
         (field(line, 67, 70) % 256) as u8,
     );
-    check(line, &area);
+    check(out, line, &area);
 }
 
-fn run(input: &[u8]) {
+fn run(out: &mut Output<impl Write>, input: &[u8]) {
     let mut at = 0;
     while at < input.len() {
         if input.len() - at < 92 {
-            text(b"bad line\n");
+            text(out, b"bad line\n");
             return;
         }
         let end = at + 91;
-        show(&input[at..end]);
+        show(out, &input[at..end]);
         at += 92;
     }
 }
 
-fn main() {
-    text(b"CRC of 123456789:");
-    number(crc::crc16_upd(0xFFFF, b"123456789") as u64);
-    text(b"\n");
-    let mut input = io::large_buffer();
-    let n = io::read_full(0, &mut input);
-    run(&input[..n]);
+fn main(rt: HostRuntime) -> io::Result<()> {
+    let mut out = Output::new(io::writer(&rt));
+    text(&mut out, b"CRC of 123456789:");
+    number(&mut out, crc::crc16_upd(0xFFFF, b"123456789") as u64);
+    text(&mut out, b"\n");
+    let mut input = Vec::new(rt.alloc());
+    let read = rt.reader().take(INPUT_MOST).read_to_end(&mut input);
+    run(&mut out, &input);
+    read?;
+    out.finish()
 }

@@ -1,5 +1,4 @@
 // One entry of the entry listing: a FAT write in which that entry alone differs.
-
 #![tactic(auto)]
 
 pub mod list;

@@ -1,8 +1,10 @@
 // Pairs, staging slots and records: what is found, and what setting a pair changes.
 use crate::{answer, byte, line_end, number, place, text};
+use printed::Output;
 use records::Rec;
 use state::pairs::{PairOf, set_pair};
 use state::w::{Pair, St, W, initial_state};
+use std::io::Write;
 
 fn staged(c: u16, map: u64) -> St {
     St {
@@ -14,86 +16,82 @@ fn staged(c: u16, map: u64) -> St {
     }
 }
 
-fn show_value(p: PairOf) {
+fn show_value(out: &mut Output<impl Write>, p: PairOf) {
     match p {
         PairOf::Value(v) => {
-            text(b" value");
-            number(v as u64);
+            text(out, b" value");
+            number(out, v as u64);
         }
         PairOf::NoPair => {
-            text(b" no value");
+            text(out, b" no value");
         }
     }
 }
 
 // Where the pair and the staging slot of cluster `c` are, and how many places are free.
-fn show(name: &[u8], w: W, c: u32) {
+fn show(out: &mut Output<impl Write>, name: &[u8], w: W, c: u32) {
     let pair = w.pair;
     let st = w.st;
-    text(name);
-    text(b", cluster");
-    number(c as u64);
-    text(b": pair at");
-    place(state::pairs::pair_idx(pair, c));
-    show_value(state::pairs::pair_of(pair, c));
-    text(b" slot at");
-    place(state::staged::slot_of(st, c));
-    text(b" free");
-    number(state::pairs::free_pairs(pair) as u64);
-    answer(state::staged::free_slots(st) as u64);
+    text(out, name);
+    text(out, b", cluster");
+    number(out, c as u64);
+    text(out, b": pair at");
+    place(out, state::pairs::pair_idx(pair, c));
+    show_value(out, state::pairs::pair_of(pair, c));
+    text(out, b" slot at");
+    place(out, state::staged::slot_of(st, c));
+    text(out, b" free");
+    number(out, state::pairs::free_pairs(pair) as u64);
+    answer(out, state::staged::free_slots(st) as u64);
 }
 
-fn show_clusters(name: &[u8], w: W, clusters: &[u32]) {
-    let mut i = 0;
-    while i < clusters.len() {
-        show(name, w, clusters[i]);
-        i += 1;
+fn show_clusters(out: &mut Output<impl Write>, name: &[u8], w: W, clusters: &[u32]) {
+    for c in clusters {
+        show(out, name, w, *c);
     }
 }
 
-fn show_rec(name: &[u8], rec: [Rec; 10], idx: usize) {
+fn show_rec(out: &mut Output<impl Write>, name: &[u8], rec: [Rec; 10], idx: usize) {
     let r = records::root_rec(rec, idx);
-    text(name);
-    text(b", root slot");
-    number(idx as u64);
-    text(b": record at");
-    place(records::rec_idx(rec, idx));
-    text(b" bytes");
-    number(r.found as u64);
-    byte(r.e[0]);
-    byte(r.e[31]);
-    line_end();
+    text(out, name);
+    text(out, b", root slot");
+    number(out, idx as u64);
+    text(out, b": record at");
+    place(out, records::rec_idx(rec, idx));
+    text(out, b" bytes");
+    number(out, r.found as u64);
+    byte(out, r.e[0]);
+    byte(out, r.e[31]);
+    line_end(out);
 }
 
-fn show_recs(name: &[u8], rec: [Rec; 10], slots: &[usize]) {
-    let mut i = 0;
-    while i < slots.len() {
-        show_rec(name, rec, slots[i]);
-        i += 1;
+fn show_recs(out: &mut Output<impl Write>, name: &[u8], rec: [Rec; 10], slots: &[usize]) {
+    for idx in slots {
+        show_rec(out, name, rec, *idx);
     }
 }
 
 // The first free places, and how many records' are free.
-fn show_free(name: &[u8], w: W) {
+fn show_free(out: &mut Output<impl Write>, name: &[u8], w: W) {
     let pair = w.pair;
     let st = w.st;
     let rec = w.rec;
-    text(name);
-    text(b", first free: pair");
-    place(state::pairs::free_pair(pair));
-    text(b" slot");
-    place(state::staged::free_slot(st));
-    text(b" record");
-    place(records::free_rec(rec));
-    text(b" of");
-    answer(records::free_recs(rec) as u64);
+    text(out, name);
+    text(out, b", first free: pair");
+    place(out, state::pairs::free_pair(pair));
+    text(out, b" slot");
+    place(out, state::staged::free_slot(st));
+    text(out, b" record");
+    place(out, records::free_rec(rec));
+    text(out, b" of");
+    answer(out, records::free_recs(rec) as u64);
 }
 
-fn show_state(name: &[u8], w: W) {
+fn show_state(out: &mut Output<impl Write>, name: &[u8], w: W) {
     let rec = w.rec;
-    show_clusters(name, w, &[9, 0, 8, 65545, 4294967295]);
-    show_recs(name, rec, &[7, 0, 8, 65543]);
-    show_free(name, w);
+    show_clusters(out, name, w, &[9, 0, 8, 65545, 4294967295]);
+    show_recs(out, name, rec, &[7, 0, 8, 65543]);
+    show_free(out, name, w);
 }
 
 // One entry of each kind, at the last place; the first places hold something and aren't in use.
@@ -152,73 +150,73 @@ fn full() -> W {
     w
 }
 
-fn show_pair(p: Pair) {
-    text(b"its place has");
-    number(p.c as u64);
-    answer(p.v as u64);
+fn show_pair(out: &mut Output<impl Write>, p: Pair) {
+    text(out, b"its place has");
+    number(out, p.c as u64);
+    answer(out, p.v as u64);
 }
 
-fn show_slot(s: St) {
-    text(b"dropped slot");
-    number(s.sealed as u64);
-    byte(s.ro);
-    number(s.map);
+fn show_slot(out: &mut Output<impl Write>, s: St) {
+    text(out, b"dropped slot");
+    number(out, s.sealed as u64);
+    byte(out, s.ro);
+    number(out, s.map);
     let b = s.blk[7];
-    answer(b as u64);
+    answer(out, b as u64);
 }
 
-fn set_few() {
+fn set_few(out: &mut Output<impl Write>) {
     let w = set_pair(initial_state(8), 9, 10);
-    show(b"first pair", w, 9);
+    show(out, b"first pair", w, 9);
     let more = set_pair(w, 65535, 65535);
-    show(b"second pair", more, 65535);
-    show(b"second pair", more, 9);
+    show(out, b"second pair", more, 65535);
+    show(out, b"second pair", more, 9);
     let changed = set_pair(more, 9, 1);
-    show(b"changed pair", changed, 9);
+    show(out, b"changed pair", changed, 9);
     let removed = set_pair(changed, 9, 0);
-    show(b"removed pair", removed, 9);
-    show(b"removed pair", removed, 65535);
+    show(out, b"removed pair", removed, 9);
+    show(out, b"removed pair", removed, 65535);
     let cluster0 = set_pair(w, 0, 5);
-    show(b"pair of cluster 0", cluster0, 0);
+    show(out, b"pair of cluster 0", cluster0, 0);
     let p = cluster0.pair[1];
-    show_pair(p);
+    show_pair(out, p);
 }
 
-fn set_removed() {
+fn set_removed(out: &mut Output<impl Write>) {
     let w = repeated();
     let removed = set_pair(w, 9, 0);
-    show(b"one of two removed", removed, 9);
-    show(b"one of two removed", removed, 8);
+    show(out, b"one of two removed", removed, 9);
+    show(out, b"one of two removed", removed, 8);
     let s = removed.st[2];
-    show_slot(s);
+    show_slot(out, s);
     let again = set_pair(removed, 9, 0);
-    show(b"two of two removed", again, 9);
+    show(out, b"two of two removed", again, 9);
     let mut none = initial_state(8);
     none.st[2] = staged(9, 0);
-    show(b"removed where none is", set_pair(none, 9, 0), 9);
+    show(out, b"removed where none is", set_pair(none, 9, 0), 9);
 }
 
-fn set_full() {
+fn set_full(out: &mut Output<impl Write>) {
     let mut w = full();
     w.pair[3] = Pair { c: 13, v: 1 };
     w.pair[5] = Pair { c: 15, v: 1 };
-    show(b"41st pair", set_pair(w, 500, 7), 500);
-    show(b"changed pair of 40", set_pair(w, 15, 7), 15);
+    show(out, b"41st pair", set_pair(w, 500, 7), 500);
+    show(out, b"changed pair of 40", set_pair(w, 15, 7), 15);
     let freed = set_pair(set_pair(w, 15, 0), 13, 0);
-    show(b"two of 40 removed", freed, 15);
+    show(out, b"two of 40 removed", freed, 15);
     let reused = set_pair(freed, 500, 7);
-    show(b"one place reused", reused, 500);
+    show(out, b"one place reused", reused, 500);
     let both = set_pair(reused, 501, 8);
-    show(b"both places reused", both, 501);
-    show(b"no place left", set_pair(both, 502, 9), 502);
+    show(out, b"both places reused", both, 501);
+    show(out, b"no place left", set_pair(both, 502, 9), 502);
 }
 
-pub(crate) fn all() {
-    show_state(b"initial", initial_state(8));
-    show_state(b"one", one());
-    show_state(b"repeated", repeated());
-    show_state(b"full", full());
-    set_few();
-    set_removed();
-    set_full();
+pub(crate) fn all(out: &mut Output<impl Write>) {
+    show_state(out, b"initial", initial_state(8));
+    show_state(out, b"one", one());
+    show_state(out, b"repeated", repeated());
+    show_state(out, b"full", full());
+    set_few(out);
+    set_removed(out);
+    set_full(out);
 }

@@ -1,5 +1,4 @@
 // Prints what `records`, `state` and `medium` answer at the corners of their definitions and beside them.
-
 #![tactic(auto)]
 
 mod blocks;
@@ -8,43 +7,48 @@ mod queries;
 mod reads;
 
 use loops::Found;
+use printed::Output;
+use std::io;
+use std::io::Write;
 
-pub(crate) fn text(t: &[u8]) {
-    io::write_all(1, t);
+pub(crate) fn text(out: &mut Output<impl Write>, t: &[u8]) {
+    out.text(t);
 }
 
-pub(crate) fn number(n: u64) {
-    io::write_all(1, b" ");
-    io::print_decimal(1, n);
+pub(crate) fn number(out: &mut Output<impl Write>, n: u64) {
+    out.text(b" ");
+    out.decimal(n);
 }
 
-pub(crate) fn byte(n: u8) {
-    number(n as u64);
+pub(crate) fn byte(out: &mut Output<impl Write>, n: u8) {
+    number(out, n as u64);
 }
 
-pub(crate) fn line_end() {
-    io::write_all(1, b"\n");
+pub(crate) fn line_end(out: &mut Output<impl Write>) {
+    out.text(b"\n");
 }
 
-pub(crate) fn answer(n: u64) {
-    number(n);
-    line_end();
+pub(crate) fn answer(out: &mut Output<impl Write>, n: u64) {
+    number(out, n);
+    line_end(out);
 }
 
-pub(crate) fn place(f: Found) {
+pub(crate) fn place(out: &mut Output<impl Write>, f: Found) {
     match f {
         Found::At(i) => {
-            number(i as u64);
+            number(out, i as u64);
         }
         Found::Nothing => {
-            text(b" nothing");
+            text(out, b" nothing");
         }
     }
 }
 
-fn main() {
-    lookups::all();
-    queries::all();
-    blocks::all();
-    reads::all();
+fn main(rt: HostRuntime) -> io::Result<()> {
+    let mut out = Output::new(io::writer(&rt));
+    lookups::all(&mut out);
+    queries::all(&mut out);
+    blocks::all(&mut out);
+    reads::all(&mut out);
+    out.finish()
 }

@@ -47,10 +47,8 @@ fn byte(line: &[u8], i: usize) -> u8
 // The 32 bytes that the last 64 of 72 digits give.
 pub(crate) fn bytes(line: &[u8]) -> [u8; 32] {
     let mut e = [0u8; 32];
-    let mut i = 0;
-    while i < 32 {
+    for i in 0..32 {
         e[i] = byte(line, 8 + i * 2);
-        i += 1;
     }
     e
 }

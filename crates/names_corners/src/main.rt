@@ -4,15 +4,20 @@
 // `C` clears sector and records, `S dd hex` sets a slot of the sector, `R i ddd hex` sets record i to root slot ddd,
 // `Q ddd h` asks about root slot ddd in this sector, h says whether its start is 0 or the host's, `L ddd` asks with a sector of 511 bytes.
 // `#` is a comment.
-
 #![tactic(auto)]
 
 mod fields;
 mod shown;
 
 use fields::{bytes, digit, three, two};
+use printed::Output;
 use records::{NREC, Rec};
 use root_slots::{rec_ok, strict_name};
+use std::io;
+use std::io::{Read, Write};
+
+// No more of the input is read.
+const INPUT_MOST: u64 = 65536;
 
 #[derive(Clone, Copy)]
 struct Root {
@@ -38,10 +43,8 @@ fn copy_slot(d: &mut [u8], at: usize, e: [u8; 32]) {
     if d.len() - 32 < at {
         return;
     }
-    let mut i = 0;
-    while i < 32 {
+    for i in 0..32 {
         d[at + i] = e[i];
-        i += 1;
     }
 }
 
@@ -69,61 +72,62 @@ fn with_record(root: Root, line: &[u8]) -> Root {
     Root { d: d, rec: rec }
 }
 
-fn show_strict(rec: [Rec; NREC], d: &[u8], idx: usize) {
+fn show_strict(out: &mut Output<impl Write>, rec: [Rec; NREC], d: &[u8], idx: usize) {
     let s = strict_name(rec, d, idx);
-    shown::text(b" strict");
-    shown::number(s.no as u64);
-    shown::number(s.housekeeping as u64);
-    shown::line_end();
+    shown::text(out, b" strict");
+    shown::number(out, s.no as u64);
+    shown::number(out, s.housekeeping as u64);
+    shown::line_end(out);
 }
 
-fn show_ok(rec: [Rec; NREC], d: [u8; 512], idx: usize, host: bool) {
-    shown::text(b" rec_ok");
+fn show_ok(out: &mut Output<impl Write>, rec: [Rec; NREC], d: [u8; 512], idx: usize, host: bool) {
+    shown::text(out, b" rec_ok");
     if idx < 7 {
-        shown::text(b" -");
+        shown::text(out, b" -");
         return;
     }
     if 512 <= idx {
-        shown::text(b" -");
+        shown::text(out, b" -");
         return;
     }
-    shown::number(rec_ok(rec, &d, idx / 16 * 16, idx, host) as u64);
+    shown::number(out, rec_ok(rec, &d, idx / 16 * 16, idx, host) as u64);
 }
 
-fn show_name(rec: [Rec; NREC], d: [u8; 512], idx: usize) {
+fn show_name(out: &mut Output<impl Write>, rec: [Rec; NREC], d: [u8; 512], idx: usize) {
     let base = idx / 16 * 16;
     let m = names::entries::entries_read(rec, &d, base, idx);
     if idx < m {
         return;
     }
-    shown::name(names::text::name_by(rec, &d, base, idx, m));
+    shown::name(out, names::text::name_by(rec, &d, base, idx, m));
 }
 
-fn query(root: Root, line: &[u8]) {
+fn query(out: &mut Output<impl Write>, root: Root, line: &[u8]) {
     let idx = three(line, 2);
-    shown::text(b"slot");
-    shown::number(idx as u64);
+    shown::text(out, b"slot");
+    shown::number(out, idx as u64);
     let d = root.d;
     let rec = root.rec;
-    show_name(rec, d, idx);
-    show_ok(rec, d, idx, digit(line, 6) == 1);
-    show_strict(rec, &d, idx);
+    show_name(out, rec, d, idx);
+    show_ok(out, rec, d, idx, digit(line, 6) == 1);
+    show_strict(out, rec, &d, idx);
 }
 
-fn query_short(root: Root, line: &[u8]) {
+fn query_short(out: &mut Output<impl Write>, root: Root, line: &[u8]) {
     let idx = three(line, 2);
-    shown::text(b"slot");
-    shown::number(idx as u64);
+    shown::text(out, b"slot");
+    shown::number(out, idx as u64);
     let d = root.d;
     let rec = root.rec;
-    show_strict(rec, &d[..511], idx);
+    let short = &d[..511];
+    show_strict(out, rec, short, idx);
 }
 
-fn bad_line() {
-    shown::text(b"bad line\n");
+fn bad_line(out: &mut Output<impl Write>) {
+    shown::text(out, b"bad line\n");
 }
 
-fn after(root: Root, line: &[u8]) -> Root {
+fn after(out: &mut Output<impl Write>, root: Root, line: &[u8]) -> Root {
     if line.len() != 72 {
         return root;
     }
@@ -138,35 +142,38 @@ fn after(root: Root, line: &[u8]) -> Root {
         return with_record(root, line);
     }
     if command == b'Q' {
-        query(root, line);
+        query(out, root, line);
         return root;
     }
     if command == b'L' {
-        query_short(root, line);
+        query_short(out, root, line);
         return root;
     }
     if command != b'#' {
-        bad_line();
+        bad_line(out);
     }
     root
 }
 
-fn run(input: &[u8]) {
+fn run(out: &mut Output<impl Write>, input: &[u8]) {
     let mut root = cleared();
     let mut at = 0;
     while at < input.len() {
         if input.len() - at < 73 {
-            bad_line();
+            bad_line(out);
             return;
         }
         let end = at + 72;
-        root = after(root, &input[at..end]);
+        root = after(out, root, &input[at..end]);
         at += 73;
     }
 }
 
-fn main() {
-    let mut input = io::large_buffer();
-    let n = io::read_full(0, &mut input);
-    run(&input[..n]);
+fn main(rt: HostRuntime) -> io::Result<()> {
+    let mut input = Vec::new(rt.alloc());
+    let read = rt.reader().take(INPUT_MOST).read_to_end(&mut input);
+    let mut out = Output::new(io::writer(&rt));
+    run(&mut out, &input);
+    read?;
+    out.finish()
 }

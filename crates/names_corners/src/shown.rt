@@ -3,51 +3,51 @@ ghost use Rattle.std.specs.Prelude.{◌≤◌};
 
 use housekeeping::housekeeping;
 use names::text::Name;
+use printed::Output;
+use std::io::Write;
 
-pub(crate) fn text(t: &[u8]) {
-    io::write_all(1, t);
+pub(crate) fn text(out: &mut Output<impl Write>, t: &[u8]) {
+    out.text(t);
 }
 
-pub(crate) fn number(n: u64) {
-    io::write_all(1, b" ");
-    io::print_decimal(1, n);
+pub(crate) fn number(out: &mut Output<impl Write>, n: u64) {
+    out.text(b" ");
+    out.decimal(n);
 }
 
-pub(crate) fn line_end() {
-    io::write_all(1, b"\n");
+pub(crate) fn line_end(out: &mut Output<impl Write>) {
+    out.text(b"\n");
 }
 
 // A byte that is no printable ASCII character shows as its two hex digits after `%`.
-fn character(c: u8) {
+fn character(out: &mut Output<impl Write>, c: u8) {
     if c < b' ' {
-        io::write_all(1, b"%");
-        io::print_hex(1, c as u64, 2);
+        out.text(b"%");
+        out.hex(c);
         return;
     }
     if b'~' < c {
-        io::write_all(1, b"%");
-        io::print_hex(1, c as u64, 2);
+        out.text(b"%");
+        out.hex(c);
         return;
     }
-    io::write_all(1, &[c]);
+    out.text(&[c]);
 }
 
-fn characters(t: &[u8]) {
-    let mut i = 0;
-    while i < t.len() {
-        character(t[i]);
-        i += 1;
+fn characters(out: &mut Output<impl Write>, t: &[u8]) {
+    for c in t {
+        character(out, *c);
     }
 }
 
 // A name, and whether it is housekeeping.
-pub(crate) fn name(read: Name)
+pub(crate) fn name(out: &mut Output<impl Write>, read: Name)
     requires { read.len ≤ 32 }
 {
     let n = read.len;
     let chars = read.chars;
-    text(b" name \"");
-    characters(&chars[..n]);
-    text(b"\" housekeeping");
-    number(housekeeping(&chars[..n]) as u64);
+    text(out, b" name \"");
+    characters(out, &chars[..n]);
+    text(out, b"\" housekeeping");
+    number(out, housekeeping(&chars[..n]) as u64);
 }

@@ -4,36 +4,38 @@ ghost use Rattle.session_lines.specs.Steps.{silent_step};
 
 use lines::words::{is_word, word_end};
 use media_lines::media;
+use printed::Output;
 use release_lines::calls;
 use session_lines::session::{Said, Session, Step, bad, silent};
 use session_shown::shown;
 use state_lines::{direct, fields, mode};
+use std::io::Write;
 use table_lines::{gone, start};
 use write_lines::writes;
 
-fn state(s: Session, area: &[u8]) -> Step {
+fn state(out: &mut Output<impl Write>, s: Session, area: &[u8]) -> Step {
     let bytes = s.m.bytes;
     if area.len() < bytes {
         return bad(s);
     }
-    shown::state(s.w, s.t, &area[..bytes]);
+    shown::state(out, s.w, s.t, &area[..bytes]);
     silent(s)
 }
 
-fn handed(s: Session) -> Step
+fn handed(out: &mut Output<impl Write>, s: Session) -> Step
     ensures { result ≡ silent_step s }
 {
-    shown::handed(s.t);
+    shown::handed(out, s.t);
     silent(s)
 }
 
 // The lines of one word.
-fn alone(s: Session, line: &[u8], fat: &[u16], area: &[u8]) -> Step {
+fn alone(out: &mut Output<impl Write>, s: Session, line: &[u8], fat: &[u16], area: &[u8]) -> Step {
     if is_word(line, b"handed") {
-        return handed(s);
+        return handed(out, s);
     }
     if is_word(line, b"state") {
-        return state(s, area);
+        return state(out, s, area);
     }
     if is_word(line, b"release") {
         return calls::release(s, fat, area);
@@ -122,27 +124,40 @@ fn on_table(s: Session, line: &[u8], end: usize, fat: &mut [u16], area: &mut [u8
     on_state(s, line, end, fat, area)
 }
 
-fn call(s: Session, line: &[u8], fat: &mut [u16], area: &mut [u8]) -> Step {
+fn call(
+    out: &mut Output<impl Write>,
+    s: Session,
+    line: &[u8],
+    fat: &mut [u16],
+    area: &mut [u8],
+) -> Step {
     let end = word_end(line, 0);
     if end == line.len() {
-        return alone(s, line, fat, area);
+        return alone(out, s, line, fat, area);
     }
     on_table(s, line, end, fat, area)
 }
 
 // The session after line `number`. A line that begins with `#` is a remark.
-pub fn run(s: Session, line: &[u8], number: u64, fat: &mut [u16], area: &mut [u8]) -> Session
+pub fn run(
+    out: &mut Output<impl Write>,
+    s: Session,
+    line: &[u8],
+    number: u64,
+    fat: &mut [u16],
+    area: &mut [u8],
+) -> Session
     ensures { get_or line.now 0 0 ≡ 35 → result ≡ s }
 {
     if line.len() == 0 {
-        shown::answer(number, Said::Bad);
+        shown::answer(out, number, Said::Bad);
         return s;
     }
     if line[0] == b'#' {
         return s;
     }
-    let step = call(s, line, fat, area);
+    let step = call(out, s, line, fat, area);
     let said = step.said;
-    shown::answer(number, said);
+    shown::answer(out, number, said);
     step.s
 }

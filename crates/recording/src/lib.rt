@@ -1,5 +1,4 @@
 // Recordings of calls: each line is read and run against a session.
-
 #![tactic(auto)]
 
 pub mod calls;

@@ -1,186 +1,176 @@
 // What is printed of a session.
 ghost use Rattle.std.specs.Prelude.{◌<◌};
 
+use printed::Output;
 use records::{NREC, Rec};
 use session_lines::session::{ROWS, Said, Table};
 use state::w::{BPC, Done, NPAIR, NST, Pair, St, W};
+use std::io::Write;
 use vdisk::ids::is_handed;
 
-fn text(t: &[u8]) {
-    io::write_all(1, t);
+fn text(out: &mut Output<impl Write>, t: &[u8]) {
+    out.text(t);
 }
 
-fn decimal(n: u64) {
-    io::print_decimal(1, n);
+fn decimal(out: &mut Output<impl Write>, n: u64) {
+    out.decimal(n);
 }
 
-fn named(name: &[u8], n: u64) {
-    text(name);
-    decimal(n);
+fn named(out: &mut Output<impl Write>, name: &[u8], n: u64) {
+    text(out, name);
+    decimal(out, n);
 }
 
-fn times(w: W) {
-    named(b"state rw ", w.rw as u64);
-    named(b" boot ", w.boot as u64);
-    named(b" fat1 ", w.fat1 as u64);
-    named(b" session ", w.session as u64);
-    named(b" last ", w.last);
-    named(b" staging ", w.staging as u64);
-    named(b" stage_t ", w.stage_t);
-    named(b" hint ", w.hint as u64);
+fn times(out: &mut Output<impl Write>, w: W) {
+    named(out, b"state rw ", w.rw as u64);
+    named(out, b" boot ", w.boot as u64);
+    named(out, b" fat1 ", w.fat1 as u64);
+    named(out, b" session ", w.session as u64);
+    named(out, b" last ", w.last);
+    named(out, b" staging ", w.staging as u64);
+    named(out, b" stage_t ", w.stage_t);
+    named(out, b" hint ", w.hint as u64);
 }
 
-fn counts(w: W) {
+fn counts(out: &mut Output<impl Write>, w: W) {
     let n = w.n;
-    named(b" err ", w.err as u64);
-    named(b" ver ", w.ver as u64);
-    named(b" ok ", n.ok as u64);
-    named(b" refused ", n.refused as u64);
-    named(b" busy ", n.busy as u64);
-    named(b" last_refused ", n.last_refused as u64);
+    named(out, b" err ", w.err as u64);
+    named(out, b" ver ", w.ver as u64);
+    named(out, b" ok ", n.ok as u64);
+    named(out, b" refused ", n.refused as u64);
+    named(out, b" busy ", n.busy as u64);
+    named(out, b" last_refused ", n.last_refused as u64);
 }
 
-fn decided(d: Done) {
-    named(b" done.slot ", d.slot as u64);
-    named(b" done.start ", d.start as u64);
-    named(b" done.size ", d.size as u64);
-    named(b" done.ver ", d.ver as u64);
+fn decided(out: &mut Output<impl Write>, d: Done) {
+    named(out, b" done.slot ", d.slot as u64);
+    named(out, b" done.start ", d.start as u64);
+    named(out, b" done.size ", d.size as u64);
+    named(out, b" done.ver ", d.ver as u64);
 }
 
-fn parks(w: W) {
-    named(b" end_at ", w.end_at);
-    named(b" parks ", w.parks as u64);
-    named(b" purged ", w.purged as u64);
-    named(b" purge ", w.purge as u64);
+fn parks(out: &mut Output<impl Write>, w: W) {
+    named(out, b" end_at ", w.end_at);
+    named(out, b" parks ", w.parks as u64);
+    named(out, b" purged ", w.purged as u64);
+    named(out, b" purge ", w.purge as u64);
 }
 
-fn update_counts(w: W) {
+fn update_counts(out: &mut Output<impl Write>, w: W) {
     let n = w.n;
-    named(b" deleted ", n.deleted as u64);
-    named(b" fw_ok ", n.fw_ok as u64);
-    named(b" fw_bad ", n.fw_bad as u64);
+    named(out, b" deleted ", n.deleted as u64);
+    named(out, b" fw_ok ", n.fw_ok as u64);
+    named(out, b" fw_bad ", n.fw_bad as u64);
 }
 
-fn mode(w: W) {
-    named(b" want_rw ", w.want_rw as u64);
-    named(b" locks ", w.locks as u64);
-    named(b" now_ms ", w.now_ms);
-    named(b" fw ", w.fw as u64);
+fn mode(out: &mut Output<impl Write>, w: W) {
+    named(out, b" want_rw ", w.want_rw as u64);
+    named(out, b" locks ", w.locks as u64);
+    named(out, b" now_ms ", w.now_ms);
+    named(out, b" fw ", w.fw as u64);
 }
 
-fn first(n: u32) {
-    named(b" first ", n as u64);
+fn first(out: &mut Output<impl Write>, n: u32) {
+    named(out, b" first ", n as u64);
 }
 
 // What the judging of a sector doesn't change.
-fn kept(w: W) {
-    mode(w);
-    decided(w.done);
-    parks(w);
-    update_counts(w);
-    first(w.first);
+fn kept(out: &mut Output<impl Write>, w: W) {
+    mode(out, w);
+    decided(out, w.done);
+    parks(out, w);
+    update_counts(out, w);
+    first(out, w.first);
 }
 
-fn pair(i: usize, p: Pair) {
+fn pair(out: &mut Output<impl Write>, i: usize, p: Pair) {
     if p.c == 0 {
         return;
     }
-    named(b" ", i as u64);
-    named(b":", p.c as u64);
-    named(b":", p.v as u64);
+    named(out, b" ", i as u64);
+    named(out, b":", p.c as u64);
+    named(out, b":", p.v as u64);
 }
 
-fn pairs(w: W) {
-    text(b"\npairs");
-    let mut i = 0;
-    while i < NPAIR {
+fn pairs(out: &mut Output<impl Write>, w: W) {
+    text(out, b"\npairs");
+    for i in 0..NPAIR {
         let p = w.pair[i];
-        pair(i, p);
-        i += 1;
+        pair(out, i, p);
     }
 }
 
-fn byte(b: u8) {
-    io::print_hex(1, b as u64, 2);
+fn byte(out: &mut Output<impl Write>, b: u8) {
+    out.hex(b);
 }
 
-fn hex(e: [u8; 32]) {
-    let mut i = 0;
-    while i < 32 {
-        byte(e[i]);
-        i += 1;
+fn hex(out: &mut Output<impl Write>, e: [u8; 32]) {
+    for b in &e {
+        byte(out, *b);
     }
 }
 
-fn record(i: usize, r: Rec) {
+fn record(out: &mut Output<impl Write>, i: usize, r: Rec) {
     if r.slot == 0 {
         return;
     }
-    named(b" ", i as u64);
-    named(b":", r.slot as u64);
-    text(b":");
+    named(out, b" ", i as u64);
+    named(out, b":", r.slot as u64);
+    text(out, b":");
     let e = r.e;
-    hex(e);
+    hex(out, e);
 }
 
-fn records(w: W) {
-    text(b"\nrecords");
-    let mut i = 0;
-    while i < NREC {
+fn records(out: &mut Output<impl Write>, w: W) {
+    text(out, b"\nrecords");
+    for i in 0..NREC {
         let r = w.rec[i];
-        record(i, r);
-        i += 1;
+        record(out, i, r);
     }
 }
 
-fn block(b: u16) {
-    named(b":", b as u64);
+fn block(out: &mut Output<impl Write>, b: u16) {
+    named(out, b":", b as u64);
 }
 
-fn blocks(blk: [u16; BPC]) {
-    let mut j = 0;
-    while j < BPC {
-        block(blk[j]);
-        j += 1;
+fn blocks(out: &mut Output<impl Write>, blk: [u16; BPC]) {
+    for b in &blk {
+        block(out, *b);
     }
 }
 
-fn slot(i: usize, x: St) {
+fn slot(out: &mut Output<impl Write>, i: usize, x: St) {
     if x.c == 0 {
         return;
     }
-    named(b" ", i as u64);
-    named(b":", x.c as u64);
-    named(b":", x.sealed as u64);
-    named(b":", x.ro as u64);
-    named(b":", x.map);
+    named(out, b" ", i as u64);
+    named(out, b":", x.c as u64);
+    named(out, b":", x.sealed as u64);
+    named(out, b":", x.ro as u64);
+    named(out, b":", x.map);
     let blk = x.blk;
-    blocks(blk);
+    blocks(out, blk);
 }
 
-fn staged(w: W) {
-    text(b"\nstaged");
-    let mut i = 0;
-    while i < NST {
+fn staged(out: &mut Output<impl Write>, w: W) {
+    text(out, b"\nstaged");
+    for i in 0..NST {
         let x = w.st[i];
-        slot(i, x);
-        i += 1;
+        slot(out, i, x);
     }
 }
 
-fn id(n: u16) {
-    named(b" ", n as u64);
+fn id(out: &mut Output<impl Write>, n: u16) {
+    named(out, b" ", n as u64);
 }
 
-fn ids(t: Table) {
-    text(b"\nids");
-    let mut j = 0;
-    while j < ROWS {
+fn ids(out: &mut Output<impl Write>, t: Table) {
+    text(out, b"\nids");
+    for j in 0..ROWS {
         if t.n <= j {
             return;
         }
-        id(t.ids[j]);
-        j += 1;
+        id(out, t.ids[j]);
     }
 }
 
@@ -189,75 +179,71 @@ fn sum(b: &[u8]) -> u64
     ensures { result < 4294967291 }
 {
     let mut h = 0;
-    let mut i = 0;
-    while i < b.len() {
-        h = (h * 257 + b[i] as u64) % 4294967291;
-        i += 1;
+    for x in b {
+        h = (h * 257 + *x as u64) % 4294967291;
     }
     h
 }
 
 // All of the state, the table's ids, and a sum over the medium.
-pub fn state(w: W, t: Table, area: &[u8]) {
-    times(w);
-    counts(w);
-    kept(w);
-    pairs(w);
-    records(w);
-    staged(w);
-    ids(t);
-    named(b"\ndata ", sum(area));
-    text(b"\n");
+pub fn state(out: &mut Output<impl Write>, w: W, t: Table, area: &[u8]) {
+    times(out, w);
+    counts(out, w);
+    kept(out, w);
+    pairs(out, w);
+    records(out, w);
+    staged(out, w);
+    ids(out, t);
+    named(out, b"\ndata ", sum(area));
+    text(out, b"\n");
 }
 
-fn row(id: u16, j: usize) {
+fn row(out: &mut Output<impl Write>, id: u16, j: usize) {
     if is_handed(id) {
-        named(b" ", j as u64);
+        named(out, b" ", j as u64);
     }
 }
 
-fn rows(t: Table) {
-    let mut j = 0;
-    while j < ROWS {
+fn rows(out: &mut Output<impl Write>, t: Table) {
+    for j in 0..ROWS {
         if t.n <= j {
             return;
         }
-        row(t.ids[j], j);
-        j += 1;
+        row(out, t.ids[j], j);
     }
 }
 
 // The rows that are handed.
-pub fn handed(t: Table) {
-    text(b"handed");
-    rows(t);
-    text(b"\n");
+pub fn handed(out: &mut Output<impl Write>, t: Table) {
+    text(out, b"handed");
+    rows(out, t);
+    text(out, b"\n");
 }
 
-fn number(line: u64, n: u8) {
-    decimal(line);
-    named(b" ", n as u64);
+fn number(out: &mut Output<impl Write>, line: u64, n: u8) {
+    decimal(out, line);
+    named(out, b" ", n as u64);
 }
 
-fn ended(line: u64, n: u8, how: u8, had: bool) {
-    number(line, n);
-    named(b" ended ", how as u64);
-    named(b" had ", had as u64);
-    text(b"\n");
+fn ended(out: &mut Output<impl Write>, line: u64, n: u8, how: u8, had: bool) {
+    number(out, line, n);
+    named(out, b" ended ", how as u64);
+    named(out, b" had ", had as u64);
+    text(out, b"\n");
 }
 
 // What line `line` answers.
-pub fn answer(line: u64, said: Said) {
+pub fn answer(out: &mut Output<impl Write>, line: u64, said: Said) {
     match said {
         Said::Nothing => {}
         Said::Number(n) => {
-            number(line, n);
-            text(b"\n");
+            number(out, line, n);
+            text(out, b"\n");
         }
-        Said::Ended(n, how, had) => ended(line, n, how, had),
+        Said::Ended(n, how, had) => ended(out, line, n, how, had),
         Said::Bad => {
-            decimal(line);
-            text(b" bad\n");
+            decimal(out, line);
+            text(out, b" bad\n");
         }
     }
 }

@@ -1,10 +1,12 @@
 // Tables that a start takes or not.
 use crate::{line_end, number, text};
 use file_table::table_ok;
+use printed::Output;
+use std::io::Write;
 
-fn answer(taken: bool) {
-    number(taken as u64);
-    line_end();
+fn answer(out: &mut Output<impl Write>, taken: bool) {
+    number(out, taken as u64);
+    line_end(out);
 }
 
 // Two files shown in directory 0, the second of kind 3 and empty, and one in directory 1. Each call changes one thing.
@@ -17,6 +19,7 @@ const STARTS: [u16; 3] = [100, 102, 200];
 const SIZES: [u32; 3] = [32769, 0, 32768];
 
 fn show(
+    out: &mut Output<impl Write>,
     name: &[u8],
     ids: [u16; 3],
     slots: [u16; 3],
@@ -24,97 +27,121 @@ fn show(
     sizes: [u32; 3],
     first: u32,
 ) {
-    text(b"table ");
-    text(name);
-    answer(table_ok(&ids, &slots, &starts, &sizes, first));
+    text(out, b"table ");
+    text(out, name);
+    answer(out, table_ok(&ids, &slots, &starts, &sizes, first));
 }
 
-fn with_ids(name: &[u8], ids: [u16; 3]) {
-    show(name, ids, SLOTS, STARTS, SIZES, 8);
+fn with_ids(out: &mut Output<impl Write>, name: &[u8], ids: [u16; 3]) {
+    show(out, name, ids, SLOTS, STARTS, SIZES, 8);
 }
 
-fn with_slots(name: &[u8], slots: [u16; 3]) {
-    show(name, IDS, slots, STARTS, SIZES, 8);
+fn with_slots(out: &mut Output<impl Write>, name: &[u8], slots: [u16; 3]) {
+    show(out, name, IDS, slots, STARTS, SIZES, 8);
 }
 
-fn with_clusters(name: &[u8], starts: [u16; 3], sizes: [u32; 3]) {
-    show(name, IDS, SLOTS, starts, sizes, 8);
+fn with_clusters(out: &mut Output<impl Write>, name: &[u8], starts: [u16; 3], sizes: [u32; 3]) {
+    show(out, name, IDS, SLOTS, starts, sizes, 8);
 }
 
-fn with_first(name: &[u8], sizes: [u32; 3], first: u32) {
-    show(name, IDS, SLOTS, STARTS, sizes, first);
+fn with_first(out: &mut Output<impl Write>, name: &[u8], sizes: [u32; 3], first: u32) {
+    show(out, name, IDS, SLOTS, STARTS, sizes, first);
 }
 
-fn marks() {
-    with_ids(b"good", IDS);
-    with_ids(b"turned", [0x1007, 0x0C07, 0x0408]);
-    with_ids(b"freed", [0x0007, 0x2C07, 0x0408]);
-    with_ids(b"gone", [0x0007, 0x0C07, 0x4408]);
-    with_ids(b"moved", [0x0007, 0x0C07, 0x8408]);
+fn marks(out: &mut Output<impl Write>) {
+    with_ids(out, b"good", IDS);
+    with_ids(out, b"turned", [0x1007, 0x0C07, 0x0408]);
+    with_ids(out, b"freed", [0x0007, 0x2C07, 0x0408]);
+    with_ids(out, b"gone", [0x0007, 0x0C07, 0x4408]);
+    with_ids(out, b"moved", [0x0007, 0x0C07, 0x8408]);
 }
 
-fn clusters() {
-    with_clusters(b"starts fall", [100, 99, 200], SIZES);
-    with_clusters(b"starts equal", [100, 102, 102], SIZES);
-    with_clusters(b"start in the file before", [100, 101, 200], [32769, 1, 1]);
-    with_clusters(b"empty file in the file before", [100, 101, 200], SIZES);
-    with_clusters(b"file right after an empty one", [100, 102, 103], SIZES);
-    with_clusters(b"last cluster", [100, 102, 65001], SIZES);
+fn clusters(out: &mut Output<impl Write>) {
+    with_clusters(out, b"starts fall", [100, 99, 200], SIZES);
+    with_clusters(out, b"starts equal", [100, 102, 102], SIZES);
     with_clusters(
+        out,
+        b"start in the file before",
+        [100, 101, 200],
+        [32769, 1, 1],
+    );
+    with_clusters(
+        out,
+        b"empty file in the file before",
+        [100, 101, 200],
+        SIZES,
+    );
+    with_clusters(
+        out,
+        b"file right after an empty one",
+        [100, 102, 103],
+        SIZES,
+    );
+    with_clusters(out, b"last cluster", [100, 102, 65001], SIZES);
+    with_clusters(
+        out,
         b"past the last cluster",
         [100, 102, 65001],
         [32769, 0, 32769],
     );
 }
 
-fn first_clusters() {
-    with_first(b"clusters from the first on", SIZES, 100);
-    with_first(b"clusters before the first", SIZES, 101);
-    with_first(b"first 7", SIZES, 7);
-    with_first(b"first 6", SIZES, 6);
-    with_first(b"first 65002 with files", SIZES, 65002);
-    with_first(b"first 65002, empty files", [0, 0, 0], 65002);
-    with_first(b"first 65003, empty files", [0, 0, 0], 65003);
+fn first_clusters(out: &mut Output<impl Write>) {
+    with_first(out, b"clusters from the first on", SIZES, 100);
+    with_first(out, b"clusters before the first", SIZES, 101);
+    with_first(out, b"first 7", SIZES, 7);
+    with_first(out, b"first 6", SIZES, 6);
+    with_first(out, b"first 65002 with files", SIZES, 65002);
+    with_first(out, b"first 65002, empty files", [0, 0, 0], 65002);
+    with_first(out, b"first 65003, empty files", [0, 0, 0], 65003);
 }
 
-fn sharing() {
-    with_ids(b"kind and number shared", [0x0007, 0x0C07, 0x0007]);
-    with_ids(b"number shared, other kind", [0x0007, 0x0407, 0x0807]);
-    with_slots(b"directory and slot shared", [2, 2, 2]);
-    with_slots(b"slot shared, other directory", [2, 3, 3]);
+fn sharing(out: &mut Output<impl Write>) {
+    with_ids(out, b"kind and number shared", [0x0007, 0x0C07, 0x0007]);
+    with_ids(out, b"number shared, other kind", [0x0007, 0x0407, 0x0807]);
+    with_slots(out, b"directory and slot shared", [2, 2, 2]);
+    with_slots(out, b"slot shared, other directory", [2, 3, 3]);
 }
 
-fn column_lengths() {
+fn column_lengths(out: &mut Output<impl Write>) {
     let ids = [0x0007u16, 0x0408];
     let slots = [2u16, 2];
     let starts = [100u16, 200];
     let sizes = [1u32, 1];
-    text(b"table columns of one length");
-    answer(table_ok(&ids, &slots, &starts, &sizes, 8));
-    text(b"table short slots");
-    answer(table_ok(&ids, &slots[..1], &starts, &sizes, 8));
-    text(b"table short starts");
-    answer(table_ok(&ids, &slots, &starts[..1], &sizes, 8));
-    text(b"table short sizes");
-    answer(table_ok(&ids, &slots, &starts, &sizes[..1], 8));
-    text(b"table short ids");
-    answer(table_ok(&ids[..1], &slots, &starts, &sizes, 8));
-    text(b"table no files");
-    answer(table_ok(&ids[..0], &slots[..0], &starts[..0], &sizes[..0], 7));
+    text(out, b"table columns of one length");
+    answer(out, table_ok(&ids, &slots, &starts, &sizes, 8));
+    text(out, b"table short slots");
+    answer(out, table_ok(&ids, &slots[..1], &starts, &sizes, 8));
+    text(out, b"table short starts");
+    answer(out, table_ok(&ids, &slots, &starts[..1], &sizes, 8));
+    text(out, b"table short sizes");
+    answer(out, table_ok(&ids, &slots, &starts, &sizes[..1], 8));
+    text(out, b"table short ids");
+    answer(out, table_ok(&ids[..1], &slots, &starts, &sizes, 8));
+    text(out, b"table no files");
+    answer(
+        out,
+        table_ok(&ids[..0], &slots[..0], &starts[..0], &sizes[..0], 7),
+    );
 }
 
 // The numbers from `from` on.
 fn count_up(column: &mut [u16], from: u16) {
-    let mut i = 0;
     let mut n = from;
-    while i < column.len() {
-        column[i] = n;
-        n = std::num::wrapping_add_u16(n, 1);
-        i += 1;
+    for x in column.iter_mut() {
+        *x = n;
+        n = n.wrapping_add(1);
     }
 }
 
-fn first_rows(ids: &[u16], slots: &[u16], starts: &[u16], sizes: &[u32], n: usize) {
+fn first_rows(
+    out: &mut Output<impl Write>,
+    ids: &[u16],
+    slots: &[u16],
+    starts: &[u16],
+    sizes: &[u32],
+    n: usize,
+) {
     if ids.len() < n {
         return;
     }
@@ -127,12 +154,15 @@ fn first_rows(ids: &[u16], slots: &[u16], starts: &[u16], sizes: &[u32], n: usiz
     if sizes.len() < n {
         return;
     }
-    text(b"table files");
-    number(n as u64);
-    answer(table_ok(&ids[..n], &slots[..n], &starts[..n], &sizes[..n], 8));
+    text(out, b"table files");
+    number(out, n as u64);
+    answer(
+        out,
+        table_ok(&ids[..n], &slots[..n], &starts[..n], &sizes[..n], 8),
+    );
 }
 
-fn many() {
+fn many(out: &mut Output<impl Write>) {
     let mut ids = [0u16; 401];
     count_up(&mut ids, 0);
     let mut slots = [0u16; 401];
@@ -140,15 +170,15 @@ fn many() {
     let mut starts = [0u16; 401];
     count_up(&mut starts, 8);
     let sizes = [1u32; 401];
-    first_rows(&ids, &slots, &starts, &sizes, 400);
-    first_rows(&ids, &slots, &starts, &sizes, 401);
+    first_rows(out, &ids, &slots, &starts, &sizes, 400);
+    first_rows(out, &ids, &slots, &starts, &sizes, 401);
 }
 
-pub(crate) fn all() {
-    marks();
-    clusters();
-    first_clusters();
-    sharing();
-    column_lengths();
-    many();
+pub(crate) fn all(out: &mut Output<impl Write>) {
+    marks(out);
+    clusters(out);
+    first_clusters(out);
+    sharing(out);
+    column_lengths(out);
+    many(out);
 }
