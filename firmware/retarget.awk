@@ -13,8 +13,14 @@ BEGIN {
     known_result = "^(void|noundef (i8|i16|i32)|noundef zeroext i1)$"
     known_parameter = "^(ptr|i64|i32|i16|i8|i1)( (noundef|zeroext))* %[A-Za-z0-9_.]+$"
     known_helper = "^llvm[.](memcpy|memmove|memset)[.a-z0-9]*$"
-    split("store load alloca call getelementptr br zext trunc ret icmp add mul xor sub switch unreachable urem udiv or lshr shl and", list, " ")
+    # A pair whose second part begins at the same byte on 32 and 64 bits: of numbers, which are aligned alike, or of a pointer and a number of 64 bits. Functions of the
+    # module answer them to one another.
+    known_pair = "{ (i(8|16|32|64), i(8|16|32|64)|ptr, i64|i64, ptr) }"
+    gsub(/[{}]/, "[&]", known_pair)
+    split("store load alloca call getelementptr br zext trunc ret icmp add mul xor sub switch unreachable urem udiv or lshr shl and extractvalue", list, " ")
     for (i in list) known_operation[list[i]] = 1
+    split("load call ret extractvalue", list, " ")
+    for (i = 1; i <= 4; i++) of_pairs[list[i]] = 1
 }
 
 # A header of a function that is exported: its result, its name and its parameters.
@@ -42,7 +48,7 @@ function export(    head, result, name, rest, n, parameters, i, line) {
     sub(/define (dso_local )?noundef i16 /, "define noundef zeroext i16 ")
 }
 
-# No types but pointers, numbers of 1 to 64 bits and arrays of bytes; no names of types.
+# No types but pointers, numbers of 1 to 64 bits, arrays of bytes and, where they may stand, known pairs; no names of types.
 function types(line,    word) {
     gsub(/"[^"]*"/, "", line)
     gsub(/[%@!][A-Za-z0-9_.]+/, "", line)
@@ -65,7 +71,15 @@ function operation(    line) {
     sub(/ .*/, "", line)
     if (!(line in known_operation)) stop("an operation that is not known to mean the same on 32 bits")
     if (line == "call" && $0 !~ /call [^@%]*@("[^"]*"|[A-Za-z0-9_.]+)\(/) stop("a call through a pointer")
-    types($0)
+    if (line == "extractvalue" && $0 !~ "= extractvalue " known_pair " %[A-Za-z0-9_.]+, [01]$") stop("a part of something else than a known pair")
+    types(line in of_pairs ? without_pair(line) : $0)
+}
+
+# The line without the known pair that the operation, or the definition, begins with.
+function without_pair(start,    line) {
+    line = $0
+    sub(start "( noundef)? " known_pair, start, line)
+    return line
 }
 
 /^target datalayout = / {
@@ -81,8 +95,9 @@ function operation(    line) {
     next
 }
 /^attributes #/ {
-    gsub(/ "target-cpu"="x86-64"/, "")
+    gsub(/ "target-cpu"="x86-64-v2"/, "")
     gsub(/ "probe-stack"="inline-asm"/, "")
+    gsub(/ "stack-probe-size"="3072"/, "")
     if ($0 ~ /"[^"]*"=/) stop("an attribute that may name a machine")
     print
     next
@@ -97,7 +112,7 @@ function operation(    line) {
 }
 /^define / {
     if (!/^define internal /) export()
-    line = $0
+    line = without_pair("define internal")
     sub(/ #[0-9]+ \{$/, "", line)
     types(line)
     print

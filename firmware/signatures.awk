@@ -31,7 +31,7 @@ function c_type(type,    constant, inner) {
     return constant plain(type) "*"
 }
 
-/^#\[no_mangle\]/ { exported = 1; next }
+/^#\[unsafe\(no_mangle\)\]/ { exported = 1; next }
 exported { text = text " " $0 }
 exported && /ensures/ {
     if (!match(text, /pub extern "C" fn [a-z0-9_]+\([^)]*\)( -> [a-z0-9]+)?/)) stop("an export of a form that is not known:" text)

@@ -1,4 +1,4 @@
-/* How written sectors of the mixer's USB drive are judged. The same header serves x86-64, where `rt staticlib` writes libvwrite.a, from vwrite_start on
+/* How written sectors of the mixer's USB drive are judged. The same header serves x86-64, where `firmware/modules` writes libvwrite.a, from vwrite_start on
  * libvwrite_sessions.a, and from vwrite_named on libvwrite_reasons.a, and the processors of `firmware/build`, which writes all calls into one libvwrite.a.
  *
  * The caller owns everything: the state, the table of files, the sectors, and the medium. A call reads and writes what it is lent only while it
