@@ -1,14 +1,14 @@
 -- Which entries of a FAT sector are written otherwise than shown, and the search for the next of them.
-use Rattle.std.specs.Prelude.{ℕ, zero, suc, ◌+◌, ◌-◌, ◌*◌, ◌%◌, ◌<◌, ◌≤◌, Bool, true, false, ◌&&◌, List, ◌≡◌, refl, get_or}
+use Rattle.std.specs.Prelude.{ℕ, zero, suc, ◌+◌, ◌-◌, ◌*◌, ◌%◌, ◌<◌, ◌≤◌, Bool, true, false, List, ◌≡◌, refl, get_or}
 use Rattle.std.proofs.Math.Bool.{not}
-use Rattle.std.proofs.Common.{sym, ◌∙◌, subst, arith}
+use Rattle.std.proofs.Common.{sym, subst, arith}
 use Rattle.std.proofs.Math.Path.{ap}
 use Rattle.std.proofs.Math.Dec.{eqb}
 use borrow.Author.Tests.{eqb-true, eq-eqb}
 use Rattle.loops.specs.Loops.{first as first_of, first-go}
 use Rattle.loops.specs.Facts.{all-at}
 use Rattle.loops.specs.Skips.{skip-le, skip-ge, skip-at}
-use Rattle.sector.specs.Bytes.{word, same_at}
+use Rattle.sector.specs.Bytes.{word}
 use Rattle.slots.specs.Slots.{same_byte, same_slot}
 
 abbrev pub changed : List ℕ → List ℕ → ℕ → Bool

@@ -1,7 +1,7 @@
 -- What the loops over a sector's changed entries have done at each of them: unchanged ones are gone past.
-use Rattle.std.specs.Prelude.{ℕ, ◌+◌, ◌-◌, ◌<◌, ◌≤◌, Bool, true, false, List, ◌≡◌, refl}
+use Rattle.std.specs.Prelude.{ℕ, ◌+◌, ◌-◌, ◌<◌, ◌≤◌, true, List, ◌≡◌}
 use Rattle.std.proofs.Common.{ap, ◌∙◌, arith}
-use Rattle.loops.specs.Loops.{first as first_of, first-start, first-go, count, count-start, count-no, fold, fold-start, fold-go}
+use Rattle.loops.specs.Loops.{first as first_of, first-go, count, count-no, fold, fold-start, fold-go}
 use Rattle.loops.specs.Skips.{skips}
 use Rattle.loops.specs.Marks.{Marks, marks-keep}
 use Rattle.file_table.specs.Table.{max_files}

@@ -1,11 +1,9 @@
 -- What a scan of a sector's entries tells.
 use Rattle.std.specs.Prelude.{ℕ, Bool, true, false, not, ◌&&◌, ◌≡◌, refl, eqb, length}
 use Rattle.std.proofs.lemmas.Bool.{false≢true}
-use Rattle.std.proofs.Common.{ap}
 use Rattle.loops.specs.Loops.{pick}
 use Rattle.loops.specs.Choices.{and-0, and-1}
 use Rattle.loops.specs.Marks.{Marks}
-use Rattle.loops.specs.declared.Found.{Found}
 use Rattle.loops.specs.declared.Found.TheVariants.{At, Nothing}
 use Rattle.vdisk.specs.declared.owner.Own.{Own}
 use Rattle.vdisk.specs.declared.owner.Own.TheVariants.{Reserved, Fixed, Dyn, Free}

@@ -1,5 +1,5 @@
 -- What a table that a start takes has: each cluster has one owner, and no two rows share a name or a place.
-use Rattle.std.specs.Prelude.{ℕ, ◌+◌, ◌-◌, ◌<◌, ◌≤◌, false, ◌&&◌, List, ◌≡◌, eqb, ltb, length}
+use Rattle.std.specs.Prelude.{ℕ, ◌+◌, ◌-◌, ◌<◌, ◌≤◌, ◌&&◌, List, ◌≡◌, eqb, ltb, length}
 use Rattle.std.proofs.Math.Bool.{true, not, true≢false}
 use Rattle.std.proofs.Common.{sym, ◌∙◌}
 use native.Mathlib.Omega.{arith}

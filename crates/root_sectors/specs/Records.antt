@@ -1,8 +1,7 @@
 -- The records that a root sector leaves, by themselves: of the state it changes nothing else.
 use Rattle.std.specs.Prelude.{ℕ, zero, suc, ◌+◌, ◌*◌, Bool, true, false, not, ◌&&◌, List, ◌≡◌, refl, leb, eqb, take, drop, set}
-use Rattle.std.proofs.Common.{sym, ap, ◌∙◌}
+use Rattle.std.proofs.Common.{ap, ◌∙◌}
 use Rattle.loops.specs.Loops.{pick, fold}
-use Rattle.loops.specs.Choices.{pick-by}
 use Rattle.loops.specs.declared.Found.{Found}
 use Rattle.loops.specs.declared.Found.TheVariants.{At, Nothing}
 use Rattle.slots.specs.Slots.{same_slot}

@@ -1,6 +1,6 @@
 -- Characters as numbers.
 use Rattle.std.specs.Prelude.{ℕ, ◌+◌, ◌&&◌, List, [] as []ᴸ, ◌∷◌ as ◌∷ᴸ◌, leb}
-use Prim.Native.Char.{Char, code}
+use Prim.Native.Char.{code}
 use Prim.Native.String.{String, [], ◌∷◌}
 use Rattle.loops.specs.Loops.{pick}
 

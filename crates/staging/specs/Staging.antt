@@ -1,5 +1,5 @@
 -- How data written to a host cluster is staged (document 01, "Judging a sector", Staging).
-use Rattle.std.specs.Prelude.{ℕ, Bool, true, false, not, ◌&&◌, ◌||◌, List, eqb, get_or, set, replicate}
+use Rattle.std.specs.Prelude.{ℕ, Bool, true, false, ◌&&◌, ◌||◌, List, eqb, get_or, set, replicate}
 use Rattle.loops.specs.Loops.{pick}
 use Rattle.loops.specs.Rows.{rows}
 use Rattle.loops.specs.declared.Found.{Found}
@@ -7,7 +7,7 @@ use Rattle.loops.specs.declared.Found.TheVariants.{At, Nothing}
 use Rattle.num.specs.Num.{wrapping_next}
 use Rattle.bits.specs.Bit.{set_bit}
 use Rattle.sector.specs.Bytes.{same, zeros}
-use Rattle.vdisk.specs.Ids.{turned, moved}
+use Rattle.vdisk.specs.Ids.{turned}
 use Rattle.slots.specs.Slots.{refers_to}
 use Rattle.state.specs.State.{no_st}
 use Rattle.state.specs.Setters.{with_st, with_staging, with_hint, with_stage_t, with_ver}

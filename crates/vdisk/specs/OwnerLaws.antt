@@ -4,7 +4,6 @@ use Rattle.std.proofs.Math.Path.{◌≡◌}
 use native.Mathlib.Omega.{arith}
 use Rattle.std.proofs.Math.Dec.{ltb}
 use borrow.Author.Tests.{le-leb, lt-leb, le-ltb, lt-ltb, ne_eqb, ltb-true, ltb-false, eqb-false, leb-true}
-use Rattle.loops.specs.Loops.{last}
 use Rattle.loops.specs.Choices.{either, picked, or-no}
 use Rattle.loops.specs.Facts.{all-at, last-le, last-is, last-above, last-below}
 use Rattle.vdisk.specs.Drive.{clusters_of, last_cluster}

@@ -1,5 +1,5 @@
 -- Laws of what `write` tries first, and of its four ways.
-use Rattle.std.specs.Prelude.{ℕ, ◌-◌, Bool, true, false, ◌&&◌, List, ◌≡◌, length}
+use Rattle.std.specs.Prelude.{ℕ, Bool, true, false, ◌&&◌, List, ◌≡◌, length}
 use Rattle.std.proofs.Math.Dec.{leb, eqb}
 use borrow.Author.Tests.{leb-true, eqb-true}
 use Rattle.loops.specs.Loops.{pick}

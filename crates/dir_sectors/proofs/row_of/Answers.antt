@@ -1,7 +1,6 @@
-use Prim.Native.Nat.{◌-◌}
 use mathlib.Core.Path.{sym, ◌∙◌}
 use Rattle.loops.specs.Found.{find-start, find-go, find-stop, find-end}
-use Rattle.dir_sectors.specs.Dir.{file_at, row_of}
+use Rattle.dir_sectors.specs.Dir.{row_of}
 use native.Mathlib.Omega.{arith}
 use Rattle.dir_sectors.proofs.row_of.Goals as goal
 

@@ -1,11 +1,11 @@
 use Rattle.file_table.specs.Table.{max_files}
-use Prim.Native.Nat.{ℕ, ◌-◌}
+use Prim.Native.Nat.{ℕ}
 use mathlib.Core.Path.{◌≡◌, sym, ◌∙◌}
 use lib.ListN.{length-set, length-replicate}
 use Rattle.loops.specs.Loops.{all-start, all-go, all-stop, all-end}
 use Rattle.loops.specs.Sought.{sought-start, sought-here, sought-on, sought-end}
 use Rattle.loops.specs.Marks.{marks-none, marks-keep, marks-put}
-use Rattle.dir_sectors.specs.Dir.{turned_by, is_found, dir_number}
+use Rattle.dir_sectors.specs.Dir.{is_found, dir_number}
 use Rattle.dir_sectors.specs.DirLaws.{turn-passes, dates-pass, turned_by-lt, same-turns-none, same-passes}
 use native.Mathlib.Omega.{arith}
 use Rattle.dir_sectors.proofs.slot_turns.Goals as goal

@@ -1,6 +1,6 @@
 use mathlib.Core.Path.{ap, sym, ◌∙◌}
 use Rattle.vdisk.specs.Drive.{clusters_of}
-use Prim.Native.Nat.{◌≤◌, ◌-◌}
+use Prim.Native.Nat.{◌≤◌}
 use lib.ListN.{get_or}
 use Rattle.loops.specs.Loops.{all-start, all-go, all-stop, all-end}
 use Rattle.vdisk.specs.DriveLaws.{clusters_of-le}

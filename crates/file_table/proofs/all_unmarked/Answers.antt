@@ -1,4 +1,3 @@
-use Prim.Native.Nat.{◌-◌}
 use mathlib.Core.Path.{sym, ◌∙◌}
 use Rattle.loops.specs.Loops.{all-start, all-go, all-stop, all-end}
 use Rattle.file_table.specs.Table.{all_unmarked}

@@ -1,8 +1,7 @@
-use Prim.Native.Nat.{◌-◌}
 use mathlib.Core.Path.{sym, ◌∙◌, ap}
 use mathlib.Core.Bool.{not}
 use Rattle.loops.specs.Loops.{all-start, all-go, all-stop, all-end}
-use Rattle.file_table.specs.Table.{names_apart, shares_name}
+use Rattle.file_table.specs.Table.{names_apart}
 use native.Mathlib.Omega.{arith}
 use Rattle.file_table.proofs.names_apart.Goals as goal
 

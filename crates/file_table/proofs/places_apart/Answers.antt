@@ -1,8 +1,7 @@
-use Prim.Native.Nat.{◌-◌}
 use mathlib.Core.Path.{sym, ◌∙◌, ap}
 use mathlib.Core.Bool.{not}
 use Rattle.loops.specs.Loops.{all-start, all-go, all-stop, all-end}
-use Rattle.file_table.specs.Table.{places_apart, shares_place}
+use Rattle.file_table.specs.Table.{places_apart}
 use native.Mathlib.Omega.{arith}
 use Rattle.file_table.proofs.places_apart.Goals as goal
 

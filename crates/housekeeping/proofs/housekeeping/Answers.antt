@@ -1,7 +1,5 @@
-use Prim.Native.Nat.{◌-◌}
 use mathlib.Core.Path.{refl, sym, ◌∙◌}
 use Rattle.loops.specs.Loops.{some-start, some-go, some-stop, some-end}
-use Rattle.housekeeping.specs.Housekeeping.{is_prefix}
 use Rattle.housekeeping.specs.EndToEnd.{prefix_bytes}
 use Rattle.housekeeping.specs.PrefixLaws.{starts, start-in, housekeeping-some}
 use native.Mathlib.Omega.{arith}

@@ -1,6 +1,4 @@
-use Prim.Native.Nat.{◌-◌}
-use mathlib.Core.Bool.{true, not}
-use mathlib.Core.Logic.{⊎_elim}
+use mathlib.Core.Bool.{not}
 use mathlib.Core.Path.{sym, ◌∙◌, ap}
 use native.Mathlib.Omega.{arith}
 use borrow.Author.Tests.{eq-eqb, ne_eqb, lt-ltb, le-ltb}
@@ -44,9 +42,9 @@ loop-i-preserved c = let e = c.next_changed-i-in-loop-i.ensures in
       elim c.if-needs_rec.branch [ then-needs_rec w ↦ omega arith | else-needs_rec w ↦ omega arith ],
       skip-at _ 16 _ _ (omega arith) e,
       judging-on _ _ _ _ (omega arith) e (elim c.if-needs_rec.branch [
-          then-needs_rec w ↦ rw w.need-is (record { refused = go; needed = count-yes _ _ _ _ _ v.3.needed l (sym c.needs_rec.ensures ∙ w.if-needs_rec.true) })
-          | else-needs_rec w ↦ rw w.need-is (record { refused = go; needed = count-no _ _ _ _ _ v.3.needed l (sym c.needs_rec.ensures ∙ w.if-needs_rec.false) })
-          ]),
+        | then-needs_rec w ↦ rw w.need-is (record { refused = go; needed = count-yes _ _ _ _ _ v.3.needed l (sym c.needs_rec.ensures ∙ w.if-needs_rec.true) })
+        | else-needs_rec w ↦ rw w.need-is (record { refused = go; needed = count-no _ _ _ _ _ v.3.needed l (sym c.needs_rec.ensures ∙ w.if-needs_rec.false) })
+      ]),
     )
 
 pub free_recs-requires : goal.free_recs-requires

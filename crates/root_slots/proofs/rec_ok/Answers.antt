@@ -1,5 +1,5 @@
 use mathlib.Core.Path.{sym, ap, ◌∙◌}
-use borrow.Author.Tests.{not-true, not-false, eq-eqb, ne_eqb}
+use borrow.Author.Tests.{eq-eqb, ne_eqb}
 use Rattle.loops.specs.Choices.{or-r}
 use Rattle.bits.specs.Bit.{bit}
 use Rattle.names.specs.Names.{long_name}

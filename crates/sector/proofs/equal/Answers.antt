@@ -1,5 +1,4 @@
 use lib.ListN.{get_or}
-use Prim.Native.Nat.{◌-◌}
 use native.Mathlib.Omega.{arith}
 use Rattle.sector.specs.Bytes.{same}
 use Rattle.sector.specs.Laws.{gather-start, gather-go, gather-end, xor-eqb}

@@ -1,4 +1,3 @@
-use borrow.Author.Tests.{not-true, not-false}
 use Rattle.stage.proofs.mark_staged.Goals as goal
 
 -- src/lib.rt:202:9

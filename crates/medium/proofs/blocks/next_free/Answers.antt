@@ -1,4 +1,3 @@
-use Prim.Native.Nat.{◌-◌}
 use borrow.Author.Tests.{eq-eqb, ne_eqb, lt-ltb, le-ltb}
 use Rattle.loops.specs.Loops.{first-go, first-stop, first-end}
 use Rattle.medium.specs.Medium.{search_end, next_free}

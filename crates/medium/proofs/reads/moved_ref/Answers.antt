@@ -1,7 +1,6 @@
-use Prim.Native.Nat.{◌-◌}
 use mathlib.Core.Path.{sym, ◌∙◌}
 use Rattle.loops.specs.Loops.{some-start, some-go, some-stop, some-end}
-use Rattle.medium.specs.Reads.{slot_names, moved_ref}
+use Rattle.medium.specs.Reads.{moved_ref}
 use native.Mathlib.Omega.{arith}
 use Rattle.medium.proofs.reads.moved_ref.Goals as goal
 

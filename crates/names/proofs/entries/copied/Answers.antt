@@ -1,4 +1,3 @@
-use Prim.Native.Nat.{◌-◌}
 use lib.ListN.{length-set}
 use mathlib.Core.Path.{refl}
 use Rattle.names.specs.NameLaws.{copied-start, copied-more, copied-end}

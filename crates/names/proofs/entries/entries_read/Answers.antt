@@ -1,4 +1,3 @@
-use Prim.Native.Nat.{◌-◌}
 use mathlib.Core.Path.{refl, sym, ◌∙◌}
 use Rattle.names.specs.NameLaws.{read-low, read-short, read-other, read-ended, read-marked, read-next, read-end}
 use native.Mathlib.Omega.{arith}

@@ -1,4 +1,3 @@
-use Prim.Native.Nat.{◌-◌}
 use mathlib.Core.Path.{refl, sym, ◌∙◌}
 use Rattle.names.specs.NameLaws.{strict-low, strict-short, strict-last, strict-other, strict-ended, strict-next, strict-end}
 use native.Mathlib.Omega.{arith}

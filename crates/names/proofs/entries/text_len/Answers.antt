@@ -1,4 +1,3 @@
-use Prim.Native.Nat.{◌-◌}
 use mathlib.Core.Path.{sym, ◌∙◌}
 use Rattle.loops.specs.Loops.{first-start, first-go, first-stop, first-end}
 use Rattle.names.specs.Names.{text_len}

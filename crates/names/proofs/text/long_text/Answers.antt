@@ -1,4 +1,3 @@
-use Prim.Native.Nat.{◌-◌}
 use mathlib.Core.Path.{◌≡◌}
 use Rattle.names.specs.Names.{joined}
 use Rattle.names.specs.TextLaws.{joined-more}

@@ -1,6 +1,5 @@
 use lib.ListN.{length-set}
 use mathlib.Core.Path.{sym, ◌∙◌, ap}
-use Prim.Native.Nat.{◌-◌}
 use Rattle.names.specs.Names.{shown_char}
 use Rattle.names.specs.Held.{held}
 use Rattle.names.specs.TextLaws.{text_len-le, held-le, push-full, push-room, text-start, text-more, text-end}

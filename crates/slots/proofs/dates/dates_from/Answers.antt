@@ -1,7 +1,5 @@
-use Prim.Native.Nat.{◌-◌}
 use mathlib.Core.Path.{refl, sym, ◌∙◌}
 use Rattle.loops.specs.Loops.{all-go, all-stop, all-end}
-use Rattle.slots.specs.Slots.{date_at}
 use native.Mathlib.Omega.{arith}
 use Rattle.slots.proofs.dates.dates_from.Goals as goal
 

@@ -1,4 +1,4 @@
-use Prim.Native.Nat.{◌-◌, ◌+◌}
+use Prim.Native.Nat.{◌+◌}
 use lib.ListN.{get_or}
 use Rattle.sector.specs.Laws.{gather-start, gather-go, gather-end, xor-eqb}
 use Rattle.slots.specs.Slots.{same_slot}

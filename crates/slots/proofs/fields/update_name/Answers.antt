@@ -30,11 +30,11 @@ returns-then-not-letter_at-6 c = simp (sym c.letter_at-6.ensures ∙ c.if-not-le
 pub returns : goal.returns
 unfolding update_name
 returns c = simp (
-      sym c.letter_at.ensures ∙ c.if-not-letter_at.false,
-      sym c.letter_at-2.ensures ∙ c.if-not-letter_at-2.false,
-      sym c.letter_at-3.ensures ∙ c.if-not-letter_at-3.false,
-      sym c.letter_at-4.ensures ∙ c.if-not-letter_at-4.false,
-      sym c.letter_at-5.ensures ∙ c.if-not-letter_at-5.false,
-      sym c.letter_at-6.ensures ∙ c.if-not-letter_at-6.false,
-      ← c.letter_at-7.ensures,
-    )
+  sym c.letter_at.ensures ∙ c.if-not-letter_at.false,
+  sym c.letter_at-2.ensures ∙ c.if-not-letter_at-2.false,
+  sym c.letter_at-3.ensures ∙ c.if-not-letter_at-3.false,
+  sym c.letter_at-4.ensures ∙ c.if-not-letter_at-4.false,
+  sym c.letter_at-5.ensures ∙ c.if-not-letter_at-5.false,
+  sym c.letter_at-6.ensures ∙ c.if-not-letter_at-6.false,
+  ← c.letter_at-7.ensures,
+)

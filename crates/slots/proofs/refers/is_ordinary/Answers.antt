@@ -23,10 +23,10 @@ returns-then-test_u16 c = simp (← c.attr-a.ensures, sym c.test_u16.ensures ∙
 pub returns : goal.returns
 unfolding is_ordinary
 returns c = simp (
-      ne_eqb _ _ c.if-b-at-eq0.false,
-      ne_eqb _ _ c.if-b-at.false,
-      sym c.is_long.ensures ∙ c.if-is_long.false,
-      ← c.attr-a.ensures,
-      sym c.test_u16.ensures ∙ c.if-test_u16.false,
-      ← c.test_u16-2.ensures,
-    )
+  ne_eqb _ _ c.if-b-at-eq0.false,
+  ne_eqb _ _ c.if-b-at.false,
+  sym c.is_long.ensures ∙ c.if-is_long.false,
+  ← c.attr-a.ensures,
+  sym c.test_u16.ensures ∙ c.if-test_u16.false,
+  ← c.test_u16-2.ensures,
+)

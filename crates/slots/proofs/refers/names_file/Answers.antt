@@ -15,8 +15,8 @@ returns-then-start-file_start c = simp (← c.start.ensures, ne_eqb _ _ c.if-sta
 pub returns : goal.returns
 unfolding names_file
 returns c = simp (
-      sym c.is_ordinary.ensures ∙ c.if-not-is_ordinary.false,
-      ← c.start.ensures,
-      eq-eqb _ _ c.if-start-file_start.false,
-      ← c.size.ensures,
-    )
+  sym c.is_ordinary.ensures ∙ c.if-not-is_ordinary.false,
+  ← c.start.ensures,
+  eq-eqb _ _ c.if-start-file_start.false,
+  ← c.size.ensures,
+)

@@ -1,7 +1,6 @@
-use Prim.Native.Nat.{◌-◌}
 use mathlib.Core.Path.{sym, ◌∙◌}
 use Rattle.loops.specs.Loops.{some-start, some-go, some-stop, some-end}
-use Rattle.slots.specs.Slots.{names_file, refers_to}
+use Rattle.slots.specs.Slots.{refers_to}
 use native.Mathlib.Omega.{arith}
 use Rattle.slots.proofs.refers.refers.Goals as goal
 

@@ -1,4 +1,3 @@
-use Prim.Native.Nat.{◌-◌}
 use borrow.Author.Tests.{eq-eqb, ne_eqb}
 use Rattle.loops.specs.Found.{find-start, find-go, find-stop, find-end}
 use Rattle.state.specs.Pairs.{free_pair}

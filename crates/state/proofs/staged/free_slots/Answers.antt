@@ -1,4 +1,3 @@
-use Prim.Native.Nat.{◌-◌}
 use borrow.Author.Tests.{eq-eqb, ne_eqb}
 use Rattle.loops.specs.Loops.{count-start, count-yes, count-no, count-end}
 use Rattle.state.specs.Staged.{free_slots}
