@@ -1,4 +1,3 @@
-use Rattle.write.specs.Write.{write}
 use Rattle.entry_write.specs.EntryWriteLaws.{by-sectors}
 use Rattle.entry_write.proofs.answer_to.Goals as goal
 
