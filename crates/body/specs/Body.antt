@@ -1,5 +1,5 @@
 -- The body check of a start and a size (document 01, "Porting order"): over the file's bytes as one list.
-use Rattle.std.specs.Prelude.{ℕ, ◌+◌, ◌-◌, ◌*◌, ◌/◌, ◌%◌, Bool, true, false, not, ◌&&◌, List, [], ◌++◌, ltb, eqb, get_or, take, drop}
+use Rattle.std.specs.Prelude.{ℕ, ◌+◌, ◌-◌, ◌*◌, ◌/◌, ◌%◌, Bool, false, not, ◌&&◌, List, [], ◌++◌, ltb, eqb, get_or, take, drop}
 use Rattle.loops.specs.Loops.{pick, all, fold}
 use Rattle.sector.specs.Bytes.{word32}
 use Rattle.state.specs.State.{no_st}

@@ -1,10 +1,9 @@
 -- The clusters of the staging slots as a column.
 use Rattle.std.specs.Prelude.{ℕ, ◌+◌, ◌<◌, Bool, not, ◌&&◌, List, ◌≡◌, eqb, length, get_or, set}
-use Rattle.std.proofs.Common.{sym, ap, ◌∙◌, arith, get_or-set_same, get_or-set_other, eqb-true}
+use Rattle.std.proofs.Common.{ap, ◌∙◌, arith, get_or-set_same, get_or-set_other, eqb-true}
 use Rattle.std.proofs.lemmas.Bool.{eqb-false}
 use Rattle.loops.specs.Choices.{either}
 use Rattle.loops.specs.Found.{find, find-same}
-use Rattle.loops.specs.declared.Found.{Found}
 use Rattle.state.specs.State.{max_slots, no_st}
 use Rattle.state.specs.Staged.{is_slot, slot_here, slot_of}
 use Rattle.state.specs.declared.w.St.{St}

@@ -1,8 +1,8 @@
 -- The search for the last changed entry, and that one file decides of the entries between the first and the last.
-use Rattle.std.specs.Prelude.{ℕ, zero, suc, ◌+◌, ◌-◌, ◌*◌, ◌%◌, ◌<◌, ◌≤◌, Bool, true, false, ◌&&◌, ◌||◌, List, ◌≡◌, refl, eqb, ltb, leb}
+use Rattle.std.specs.Prelude.{ℕ, zero, suc, ◌+◌, ◌-◌, ◌*◌, ◌<◌, ◌≤◌, Bool, true, false, ◌&&◌, ◌||◌, List, ◌≡◌, eqb, ltb, leb}
 use Rattle.std.proofs.Common.{true≢false, sym, ap, ◌∙◌, subst, arith}
 use borrow.Author.Tests.{ltb-true, ltb-false, lt-ltb, leb-true, le-leb, ne_eqb}
-use Rattle.loops.specs.Loops.{last, first as first_of, last-go}
+use Rattle.loops.specs.Loops.{last, last-go}
 use Rattle.loops.specs.Choices.{either, and-0, and-1, or-by, or-l, or-r}
 use Rattle.loops.specs.Facts.{last-above, first-below}
 use Rattle.state.specs.declared.w.Pair.{Pair}

@@ -1,11 +1,10 @@
 -- A FAT sector is judged with the file alone as with the whole table, where that says of each changed entry's cluster what the whole table says.
-use Prim.Native.Nat.{ℕ, zero, suc, ◌+◌, ◌-◌, ◌*◌, ◌<◌, ◌≤◌}
-use Rattle.std.specs.Prelude.{Bool, ◌&&◌, ◌≡◌, eqb, ltb, length, get_or, take}
+use Prim.Native.Nat.{ℕ, zero, suc, ◌+◌, ◌-◌, ◌*◌, ◌<◌}
+use Rattle.std.specs.Prelude.{Bool, ◌&&◌, ◌≡◌, eqb, ltb, get_or, take}
 use Rattle.std.proofs.Math.Bool.{true, false, not}
-use Rattle.std.proofs.lemmas.Bool.{false≢true}
 use mathlib.Core.List.{List, [], ◌∷◌}
 use Rattle.std.proofs.Math.Path.{refl, ap, subst}
-use Rattle.std.proofs.Common.{sym, ◌∙◌, arith, eqb-true, eq-eqb, ne_eqb, ltb-true}
+use Rattle.std.proofs.Common.{sym, ◌∙◌, arith, eq-eqb, ne_eqb, ltb-true}
 use Rattle.std.proofs.Math.ListN.{set}
 use Rattle.loops.specs.Loops.{pick, first as first_of, count, fold}
 use Rattle.loops.specs.Choices.{either, pick-has}
@@ -16,14 +15,13 @@ use Rattle.loops.specs.declared.Found.{Found}
 use Rattle.loops.specs.declared.Found.TheVariants.{At, Nothing}
 use Rattle.bits.specs.Bit.{set_bit}
 use Rattle.vdisk.specs.declared.owner.Own.{Own}
-use Rattle.vdisk.specs.declared.owner.Own.TheVariants.{Reserved, Fixed, Dyn, Free}
 use Rattle.state.specs.Pairs.{pair_idx, free_pairs, set_pair}
 use Rattle.state.specs.Setters.{with_fat1}
 use Rattle.state.specs.declared.w.Pair.{Pair}
 use Rattle.state.specs.declared.w.W.{W}
 use Rattle.clusters.specs.Clusters.{is_nothing, is_live, host_own}
 use Rattle.fat_sectors.specs.Changed.{changed}
-use Rattle.fat_sectors.specs.Fat.{FatWrite, fat_write, cluster_at, value_at, owner_at, entry_number, needs_pair, refused_at, fat_number, freed_own, freed_by, frees_row, freed_owner, apply_at, fat_state, free_id, fat_ids}
+use Rattle.fat_sectors.specs.Fat.{FatWrite, fat_write, value_at, owner_at, entry_number, needs_pair, refused_at, fat_number, freed_own, freed_by, frees_row, freed_owner, apply_at, fat_state, free_id, fat_ids}
 use Rattle.fat_sectors.specs.FatLaws.{same-needs, same-frees, unchanged-entry}
 use Rattle.last_file.specs.LastFile.{last_ids}
 use Rattle.last_file.specs.FileByLaws.{IsRow, FileOwn, reserved, fixed, free, row}

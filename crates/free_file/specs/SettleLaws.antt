@@ -1,10 +1,9 @@
 -- A settled sector is judged as `write` judges it, of every table in which that file is found.
-use Rattle.std.specs.Prelude.{ℕ, zero, suc, ◌*◌, ◌+◌, Bool, true, false, ◌&&◌, List, [], ◌∷◌, ◌++◌, ◌≡◌, refl, length, get_or, drop}
+use Rattle.std.specs.Prelude.{ℕ, Bool, true, false, ◌&&◌, List, [], ◌∷◌, ◌++◌, ◌≡◌, refl, length, get_or, drop}
 use Rattle.std.proofs.lemmas.Bool.{false≢true}
 use Rattle.std.proofs.Common.{true≢false, sym, ap, ◌∙◌, arith}
 use Rattle.std.proofs.Math.Path.{subst}
 use Rattle.std.proofs.Math.Dec.{eqb}
-use Rattle.loops.specs.Loops.{pick}
 use Rattle.loops.specs.Choices.{either, pick-by, pick-has}
 use Rattle.loops.specs.Facts.{first-at}
 use Rattle.loops.specs.Rows.{rows as rows_of, rows-length}
@@ -16,12 +15,12 @@ use Rattle.file_table.specs.Table.{table_of, whole_columns}
 use Rattle.state.specs.declared.w.W.{W}
 use Rattle.fat_sectors.specs.Changed.{changed, next_changed}
 use Rattle.fat_sectors.specs.Fat.{FatWrite, fat_number, fat_state, free_id, fat_ids}
-use Rattle.judge.specs.Classify.{SectorWrite, sector_write, Outcome, unless_shown, fat_of, fat, at_place, classify}
+use Rattle.judge.specs.Classify.{SectorWrite, sector_write, Outcome, unless_shown, fat, at_place, classify}
 use Rattle.write.specs.WriteLaws.{Leaves}
 use Rattle.tally.specs.Judged.{judged_by, tested, sectors-long, judged-leaves}
 use Rattle.tally.specs.Tally.{tallied, tallied_in, with_tally}
 use Rattle.tally.specs.declared.Tallied.{Tallied}
-use Rattle.last_file.specs.LastFile.{last_rows, last_ids}
+use Rattle.last_file.specs.LastFile.{last_rows}
 use Rattle.last_file.specs.LastLaws.{few-rows, rows-long}
 use Rattle.last_file.specs.FileBy.{file_by}
 use Rattle.last_file.specs.FileByLaws.{file-row}

@@ -1,9 +1,8 @@
 -- Where the last file decides, the table that has it alone says of a cluster what the whole table says.
 use Prim.Native.Nat.{ℕ, zero, suc, ◌-◌, ◌+◌, ◌≤◌}
-use Rattle.std.specs.Prelude.{Bool, true, not, ◌&&◌, ◌||◌, List, [], ◌∷◌, ◌≡◌, refl, leb, get_or, take}
+use Rattle.std.specs.Prelude.{Bool, true, ◌||◌, List, [], ◌∷◌, ◌≡◌, refl, leb, get_or, take}
 use Rattle.std.proofs.Math.Bool.{false}
-use Rattle.std.proofs.lemmas.Bool.{false≢true}
-use Rattle.std.proofs.Common.{sym, ap, ◌∙◌, arith}
+use Rattle.std.proofs.Common.{sym, ◌∙◌, arith}
 use Rattle.std.proofs.Math.Path.{subst}
 use borrow.Author.Tests.{ne_eqb, eqb-true, eqb-false}
 use Rattle.std.proofs.Math.Dec.{eqb, ltb}
@@ -11,7 +10,7 @@ use Rattle.std.proofs.Math.ListN.{length}
 use Rattle.loops.specs.Loops.{pick, last, all}
 use Rattle.loops.specs.Choices.{either, pick-has}
 use Rattle.vdisk.specs.Drive.{clusters_of, last_cluster}
-use Rattle.vdisk.specs.Owner.{starts_by, up_to, owner_at, owner_of, rises}
+use Rattle.vdisk.specs.Owner.{up_to, owner_at, owner_of, rises}
 use Rattle.vdisk.specs.declared.owner.Own.{Own}
 use Rattle.vdisk.specs.declared.owner.Own.TheVariants.{Reserved, Fixed, Dyn, Free}
 use Rattle.state.specs.declared.w.Pair.{Pair}

@@ -1,24 +1,22 @@
 -- A FAT sector that its first changed entry refuses has that entry's number, by the whole table as by the file alone.
-use Rattle.std.specs.Prelude.{ℕ, ◌+◌, ◌*◌, ◌<◌, ◌≤◌, Bool, true, false, ◌&&◌, ◌||◌, List, [], ◌∷◌, ◌≡◌, ltb, length, get_or, take}
+use Rattle.std.specs.Prelude.{ℕ, ◌+◌, ◌*◌, ◌<◌, true, false, List, [], ◌∷◌, ◌≡◌, ltb, length, get_or, take}
 use Rattle.std.proofs.Math.Bool.{not}
-use Rattle.std.proofs.Common.{true≢false, sym, ap, ◌∙◌, subst, arith}
+use Rattle.std.proofs.Common.{true≢false, sym, ap, ◌∙◌, arith}
 use Rattle.std.proofs.Math.Path.{refl}
 use Rattle.std.proofs.Math.Dec.{eqb}
 use borrow.Author.Tests.{eqb-true, eq-eqb, ltb-true, lt-ltb, ltb-false}
-use Rattle.loops.specs.Loops.{pick, all, first as first_of}
-use Rattle.loops.specs.Choices.{either, pick-by}
-use Rattle.loops.specs.Facts.{all-at, first-at, first-le, first-below}
+use Rattle.loops.specs.Loops.{all, first as first_of}
+use Rattle.loops.specs.Choices.{either}
+use Rattle.loops.specs.Facts.{all-at, first-at, first-below}
 use Rattle.sector.specs.Bytes.{word, same, same_at}
-use Rattle.vdisk.specs.Owner.{owner_of}
 use Rattle.vdisk.specs.declared.owner.Own.{Own}
-use Rattle.vdisk.specs.declared.owner.Own.TheVariants.{Reserved, Fixed, Dyn, Free}
 use Rattle.file_table.specs.Table.{in_file}
 use Rattle.state.specs.declared.w.Pair.{Pair}
 use Rattle.clusters.specs.Clusters.{is_live}
 use Rattle.fat_sectors.specs.Changed.{changed}
-use Rattle.fat_sectors.specs.Fat.{FatWrite, fat_write, cluster_at as cluster_of, value_at, owner_at, zeroed_at, zeroes_file, own_number, entry_number, refused_at, fat_number}
+use Rattle.fat_sectors.specs.Fat.{FatWrite, fat_write, owner_at, zeroed_at, zeroes_file, own_number, entry_number, refused_at, fat_number}
 use Rattle.fat_sectors.specs.FatLaws.{same-refused}
-use Rattle.last_file.specs.LastFile.{last_rows, last_ids, last_starts, last_sizes}
+use Rattle.last_file.specs.LastFile.{last_ids, last_starts, last_sizes}
 use Rattle.last_file.specs.FileBy.{file_by}
 use Rattle.last_file.specs.FileByLaws.{IsRow, FileOwn, reserved, fixed, free, row, file-owner}
 use Rattle.last_file.specs.declared.LastFile.{LastFile}

@@ -1,9 +1,8 @@
 -- A refused sector is judged as `write` judges it, of every table in which that file is found.
-use Rattle.std.specs.Prelude.{ℕ, Bool, true, false, ◌&&◌, List, ◌≡◌, refl, eqb, length}
+use Rattle.std.specs.Prelude.{ℕ, Bool, true, false, ◌&&◌, List, ◌≡◌, eqb, length}
 use Rattle.std.proofs.Common.{true≢false, ap, ◌∙◌, subst}
 use Rattle.std.proofs.lemmas.Bool.{false≢true}
 use Rattle.std.proofs.Math.Path.{sym}
-use Rattle.loops.specs.Loops.{pick}
 use Rattle.sector.specs.Bytes.{same}
 use Rattle.vdisk.specs.Drive.{place_of}
 use Rattle.vdisk.specs.declared.drive.Place.{Place}
@@ -19,7 +18,7 @@ use Rattle.tally.specs.Refused.{refused_as, refused_in, refused-leaves}
 use Rattle.tally.specs.declared.refused.Refused.{Refused}
 use Rattle.last_file.specs.FileBy.{file_by}
 use Rattle.last_file.specs.declared.LastFile.{LastFile}
-use Rattle.refuse_entry.specs.RefuseEntry.{cluster_at, cluster_asked, entry_of, number_at}
+use Rattle.refuse_entry.specs.RefuseEntry.{cluster_at, cluster_asked, number_at}
 use Rattle.refuse_entry.specs.EntryLaws.{refusal-number, refusal-other}
 
 module _ (w : W) (lba : ℕ) (shown written : List ℕ) (busy : Bool) (fats area ids slots starts sizes : List ℕ) where

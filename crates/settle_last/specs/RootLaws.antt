@@ -1,20 +1,19 @@
 -- A root sector whose starts the last file decides is judged as with the whole table.
-use Rattle.std.specs.Prelude.{ℕ, ◌+◌, ◌*◌, ◌<◌, ◌≤◌, Bool, true, false, not, ◌&&◌, ◌||◌, List, ◌≡◌, refl, ltb, leb, length}
-use Rattle.std.proofs.Common.{sym, ◌∙◌, subst, arith, ltb-true}
+use Rattle.std.specs.Prelude.{ℕ, ◌+◌, ◌*◌, ◌<◌, Bool, true, not, ◌&&◌, ◌||◌, List, ◌≡◌, ltb, leb, length}
+use Rattle.std.proofs.Common.{◌∙◌, arith, ltb-true}
 use Rattle.std.proofs.Math.Path.{ap}
 use Rattle.std.proofs.Math.Dec.{eqb}
-use Rattle.loops.specs.Loops.{pick, all, some, first as first_of, count, fold}
+use Rattle.loops.specs.Loops.{pick, some, first as first_of, count, fold}
 use Rattle.loops.specs.Choices.{either, or-by}
 use Rattle.loops.specs.Facts.{all-at, first-same}
 use Rattle.slots.specs.Slots.{start_of, same_slot, dates_only}
 use Rattle.records.specs.Records.{free_recs}
 use Rattle.records.specs.declared.Rec.{Rec}
 use Rattle.state.specs.declared.w.Pair.{Pair}
-use Rattle.clusters.specs.Clusters.{host_cluster}
 use Rattle.root_slots.specs.RootSlots.{slot_admitted}
 use Rattle.root_sectors.specs.Root.{RootWrite, root_write, start_fits, slot_number, refused_at, needs_rec, kept_at, root_number, root_changed}
 use Rattle.root_sectors.specs.Records.{keep_rec, root_records}
-use Rattle.last_file.specs.LastFile.{last_in, last_ids, last_starts, last_sizes, decides}
+use Rattle.last_file.specs.LastFile.{last_in, decides}
 use Rattle.last_file.specs.LastLaws.{same-host}
 use Rattle.settle_last.specs.Fates.{slot_decided, root_decided, root_last}
 

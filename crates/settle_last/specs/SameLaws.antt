@@ -1,14 +1,13 @@
 -- A root sector equal to the shown one is taken and changes nothing.
-use Rattle.std.specs.Prelude.{ℕ, zero, suc, ◌+◌, ◌*◌, ◌<◌, ◌≤◌, Bool, true, false, not, ◌&&◌, ◌||◌, List, ◌≡◌, refl, eqb, ltb, leb, length}
+use Rattle.std.specs.Prelude.{ℕ, zero, suc, ◌+◌, ◌*◌, ◌<◌, ◌≤◌, Bool, true, false, not, ◌&&◌, ◌≡◌, refl, ltb, leb, length}
 use Rattle.std.proofs.Common.{true≢false, sym, ap, ◌∙◌, arith}
 use borrow.Author.Tests.{ltb-true, le-ltb}
-use Rattle.loops.specs.Loops.{pick, all, some, first as first_of, count, fold}
+use Rattle.loops.specs.Loops.{some, first as first_of, count, fold}
 use Rattle.loops.specs.Choices.{either}
 use Rattle.loops.specs.Facts.{all-at, all-of, first-at, count-none}
 use Rattle.sector.specs.Bytes.{same, same_at}
 use Rattle.slots.specs.Slots.{same_byte, same_slot}
 use Rattle.records.specs.Records.{free_recs}
-use Rattle.records.specs.declared.Rec.{Rec}
 use Rattle.root_sectors.specs.Root.{RootWrite, refused_at, needs_rec, kept_at, root_number, root_changed}
 use Rattle.root_sectors.specs.Records.{keep_rec, root_records}
 use Rattle.root_sectors.specs.RootLaws.{same-refused, same-needs, slot-not-kept}

@@ -1,5 +1,5 @@
 -- A settled sector is judged as `write` judges it, of every table with that last file.
-use Rattle.std.specs.Prelude.{ℕ, ◌≤◌, Bool, not, ◌&&◌, ◌||◌, List, ◌≡◌, leb, length, get_or}
+use Rattle.std.specs.Prelude.{ℕ, Bool, not, ◌&&◌, List, ◌≡◌, length, get_or}
 use Rattle.std.proofs.Math.Bool.{true, false}
 use Rattle.std.proofs.lemmas.Bool.{false≢true}
 use Rattle.std.proofs.Math.Path.{refl, sym, ap, subst}
@@ -7,16 +7,16 @@ use Rattle.std.proofs.Common.{◌∙◌}
 use Rattle.std.proofs.Math.Dec.{eqb}
 use borrow.Author.Tests.{eqb-true}
 use Rattle.loops.specs.Loops.{pick}
-use Rattle.loops.specs.Choices.{either, pick-by, and-0, and-1, and-of}
+use Rattle.loops.specs.Choices.{either, pick-by, and-0, and-1}
 use Rattle.sector.specs.Bytes.{same}
 use Rattle.vdisk.specs.Drive.{place_of}
 use Rattle.vdisk.specs.declared.drive.Place.{Place}
 use Rattle.vdisk.specs.declared.drive.Place.TheVariants.{Boot, Fat, Root, Data, Outside}
 use Rattle.file_table.specs.Table.{table_of, whole_columns}
-use Rattle.state.specs.Setters.{with_boot, with_rec, with_session, with_last, with_err, with_n}
+use Rattle.state.specs.Setters.{with_boot, with_rec}
 use Rattle.state.specs.declared.w.W.{W}
 use Rattle.records.specs.declared.Rec.{Rec}
-use Rattle.root_sectors.specs.Root.{RootWrite, root_number, root_changed, root_state}
+use Rattle.root_sectors.specs.Root.{RootWrite, root_number, root_changed}
 use Rattle.root_sectors.specs.Records.{root_records, state-records}
 use Rattle.judge.specs.Classify.{SectorWrite, sector_write, Outcome, unless_shown, boot_passes, boot, root_of, root, at_place, classify}
 use Rattle.write.specs.WriteLaws.{Leaves}

@@ -1,17 +1,14 @@
 -- What a refused sector leaves: the error and the counts, and that it is what `write` leaves.
 use Rattle.std.specs.Prelude.{ℕ, Bool, true, false, not, List, ◌≡◌, refl, eqb, length}
 use Rattle.std.proofs.Common.{sym, ap, ◌∙◌, subst}
-use Rattle.loops.specs.Loops.{pick}
 use Rattle.file_table.specs.Table.{table_of, whole_columns}
 use Rattle.state.specs.Setters.{with_session, with_last, with_err, with_n}
 use Rattle.state.specs.declared.w.Stats.{Stats}
 use Rattle.state.specs.declared.w.W.{W}
 use Rattle.judge.specs.Classify.{SectorWrite, sector_write, refused, classify}
-use Rattle.write.specs.Write.{count_busy, count_refused, error_of}
 use Rattle.write.specs.WriteLaws.{Leaves}
 use Rattle.tally.specs.Judged.{judged_by, judged-leaves}
-use Rattle.tally.specs.Tally.{tallied, tallied_in, with_tally}
-use Rattle.tally.specs.declared.Tallied.{Tallied}
+use Rattle.tally.specs.Tally.{tallied, with_tally}
 use Rattle.tally.specs.declared.refused.Refused.{Refused}
 
 -- of refusal number 0 it is not refused

@@ -1,10 +1,10 @@
 -- A settled sector is judged as `write` judges it, of every table in which that file is found.
-use Rattle.std.specs.Prelude.{ℕ, zero, suc, ◌+◌, ◌*◌, ◌<◌, Bool, true, false, ◌&&◌, ◌||◌, List, [], ◌∷◌, ◌++◌, ◌≡◌, eqb, leb, ltb, length, get_or, drop}
+use Rattle.std.specs.Prelude.{ℕ, zero, suc, ◌+◌, ◌*◌, ◌<◌, Bool, true, false, ◌&&◌, ◌||◌, List, [], ◌∷◌, ◌++◌, ◌≡◌, eqb, ltb, length, get_or, drop}
 use Rattle.std.proofs.Math.Bool.{not}
 use Rattle.std.proofs.lemmas.Bool.{false≢true}
 use Rattle.std.proofs.Math.Path.{refl, subst}
-use Rattle.std.proofs.Common.{sym, ap, ◌∙◌, arith, eqb-true, ltb-true}
-use Rattle.loops.specs.Choices.{pick-by, pick-has, and-0, and-1, and-of, or-no}
+use Rattle.std.proofs.Common.{sym, ap, ◌∙◌, arith, ltb-true}
+use Rattle.loops.specs.Choices.{pick-by, pick-has, or-no}
 use Rattle.loops.specs.Found.{find}
 use Rattle.loops.specs.Rows.{rows as rows_of, rows-length}
 use Rattle.sector.specs.Bytes.{same}

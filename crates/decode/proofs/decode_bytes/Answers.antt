@@ -1,4 +1,4 @@
-use Rattle.std.proofs.Common.{◌-◌, ◌≤◌, length, refl, arith, length-set}
+use Rattle.std.proofs.Common.{◌≤◌, length, refl, arith, length-set}
 use Rattle.loops.specs.Rows.{rows-more, rows-end}
 use Rattle.decode.proofs.decode_bytes.Goals as goal
 

@@ -1,4 +1,3 @@
-use Prim.Native.Nat.{◌-◌}
 use mathlib.Core.Path.{◌∙◌, ap}
 use lib.ListN.{length, get_or, set}
 use native.Mathlib.Omega.{arith}

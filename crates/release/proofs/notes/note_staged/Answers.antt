@@ -1,5 +1,5 @@
 use lib.Seq.{length-take-le}
-use Prim.Native.Nat.{ℕ, ◌-◌}
+use Prim.Native.Nat.{ℕ}
 use mathlib.Core.List.{List}
 use mathlib.Core.Path.{sym, ◌∙◌, ap, subst}
 use lib.ListN.{length, get_or, take}

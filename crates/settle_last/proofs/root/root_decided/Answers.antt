@@ -1,8 +1,7 @@
-use Prim.Native.Nat.{◌-◌}
 use mathlib.Core.Path.{sym, ◌∙◌}
 use native.Mathlib.Omega.{arith}
 use Rattle.loops.specs.Loops.{all-start, all-go, all-stop, all-end}
-use Rattle.settle_last.specs.Fates.{slot_decided, root_decided}
+use Rattle.settle_last.specs.Fates.{root_decided}
 use Rattle.settle_last.proofs.root.root_decided.Goals as goal
 
 -- src/root.rt:42:5
