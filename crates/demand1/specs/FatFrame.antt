@@ -2,7 +2,7 @@
 use Rattle.std.specs.Prelude.{ℕ, ◌+◌, ◌<◌, Bool, ◌&&◌, List, ◌≡◌, set}
 use Rattle.std.proofs.Math.Bool.{true, false, not, true≢false}
 use Rattle.std.proofs.Math.Path.{refl}
-use Rattle.std.proofs.Common.{sym, ◌∙◌, ap, arith}
+use Rattle.std.proofs.Common.{sym, ◌∙◌, ap}
 use Rattle.std.proofs.Math.Dec.{eqb}
 use Rattle.std.proofs.Math.ListN.{get_or}
 use borrow.Author.Tests.{eqb-true, eqb-false, eq-eqb, ne_eqb, not-true}
@@ -16,7 +16,7 @@ use Rattle.loops.specs.declared.Found.TheVariants.{At, Nothing}
 use Rattle.bits.specs.Bit.{set_bit}
 use Rattle.vdisk.specs.Owner.{owner_of}
 use Rattle.vdisk.specs.declared.owner.Own.TheVariants.{Dyn}
-use Rattle.state.specs.State.{max_pairs, no_st, st0, pair0}
+use Rattle.state.specs.State.{max_pairs, st0, pair0}
 use Rattle.state.specs.Setters.{with_fat1, with_pair, with_st}
 use Rattle.state.specs.Pairs.{pair_of, drop_at, set_pair}
 use Rattle.state.specs.Staged.{slot_of}

@@ -1,23 +1,20 @@
 -- What Changes says of a FAT sector's entries is what the handler reads of them.
-use Rattle.std.specs.Prelude.{ℕ, ◌+◌, ◌*◌, Bool, true, false, not, ◌&&◌, ◌≡◌}
+use Rattle.std.specs.Prelude.{ℕ, ◌&&◌, ◌≡◌}
 use Rattle.std.proofs.Math.Path.{refl, sym}
 use Rattle.std.proofs.Common.{◌∙◌}
 use Rattle.std.proofs.Math.Dec.{eqb}
 use borrow.Author.Tests.{eqb-true, eq-eqb}
-use Rattle.loops.specs.Loops.{pick, some}
-use Rattle.loops.specs.Choices.{either, and-no}
+use Rattle.loops.specs.Choices.{either}
 use Rattle.loops.specs.Marks.{is_at, picked_by}
-use Rattle.loops.specs.declared.Found.TheVariants.{At, Nothing}
 use Rattle.sector.specs.Bytes.{word}
 use Rattle.vdisk.specs.declared.owner.Own.{Own}
 use Rattle.vdisk.specs.declared.owner.Own.TheVariants.{Reserved, Fixed, Dyn, Free}
-use Rattle.state.specs.Pairs.{pair_of}
 use Rattle.state.specs.declared.w.W.{W}
 use Rattle.clusters.specs.Clusters.{is_live}
 use Rattle.fat_sectors.specs.Fat.{FatWrite, cluster_at, value_at, changed_at, owner_at, freed_own, freed_by, frees_row, freed_owner}
 use Rattle.judge.specs.Classify.{SectorWrite, fat_of}
 use Rattle.admits.specs.Admits.{entry_cluster, entry_value, entry_differs, entry_owner}
-use Rattle.demand1.specs.Changes.{entry_changed, is_of, frees_file, frees_owner, sets_pair, pair_set, is_value, pair_removed}
+use Rattle.demand1.specs.Changes.{entry_changed, is_of, frees_file, frees_owner, sets_pair, pair_set, pair_removed}
 use Rattle.demand1.specs.Turns.{some-same}
 use Rattle.demand1.specs.FatFrame.{changed_in, sets_in, set_in, removed_in}
 

@@ -1,24 +1,22 @@
 -- What a taken FAT sector does to the staging slots, and to FAT[1].
-use Rattle.std.specs.Prelude.{ℕ, ◌+◌, ◌≤◌, ◌<◌, Bool, false, ◌&&◌, List, length, set}
+use Rattle.std.specs.Prelude.{ℕ, ◌+◌, ◌≤◌, ◌<◌, Bool, false, ◌&&◌, length}
 use Rattle.std.proofs.Math.Bool.{true, not}
 use Rattle.std.proofs.Common.{true≢false, ◌∙◌, arith, get_or-set_same}
-use Rattle.std.proofs.lemmas.Bool.{false≢true}
 use Rattle.std.proofs.Math.Path.{◌≡◌, refl, sym, ap}
 use Rattle.std.proofs.Math.Dec.{eqb}
 use Rattle.std.proofs.Math.ListN.{get_or}
 use borrow.Author.Tests.{eqb-true, eqb-false, eq-eqb, not-true}
-use Rattle.loops.specs.Loops.{pick, some, fold}
+use Rattle.loops.specs.Loops.{some, fold}
 use Rattle.loops.specs.Choices.{either, and-of, and-0, and-1}
 use Rattle.loops.specs.Facts.{some-in, some-at}
 use Rattle.loops.specs.Keyed.{used-only}
 use Rattle.loops.specs.declared.Found.TheVariants.{At}
-use Rattle.state.specs.State.{max_slots, no_st, st0, pair0}
+use Rattle.state.specs.State.{max_slots, no_st, st0}
 use Rattle.state.specs.Setters.{with_fat1, with_pair, with_st}
 use Rattle.state.specs.Pairs.{pair_of, drop_at, set_pair}
 use Rattle.state.specs.Staged.{is_slot, slot_of}
 use Rattle.state.specs.LookupLaws.{st_key, NoSlotTwice, none-pair_of, some-pair_of, pair_idx-is}
 use Rattle.state.specs.SetPairLaws.{set_pair-removed, set_pair-none, set_pair-st, set_pair-only, slots-length, pair_of-other, slot-stands, no_slot_twice-set_pair}
-use Rattle.state.specs.declared.w.St.{St}
 use Rattle.state.specs.declared.w.W.{W}
 use Rattle.state.specs.declared.pairs.PairOf.{PairOf}
 use Rattle.state.specs.declared.pairs.PairOf.TheVariants.{Value, NoPair}

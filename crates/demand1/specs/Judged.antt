@@ -1,5 +1,5 @@
 -- Every classified sector, by its place: fair where it is refused, and changing what is listed where it is taken.
-use Rattle.std.specs.Prelude.{ℕ, Bool, true, length, get_or}
+use Rattle.std.specs.Prelude.{ℕ, true, length, get_or}
 use Rattle.std.proofs.Math.Bool.{false}
 use Rattle.std.proofs.Common.{true≢false, sym, ◌∙◌}
 use Rattle.std.proofs.Math.Path.{◌≡◌, refl}

@@ -9,9 +9,8 @@ use Rattle.loops.specs.Loops.{some}
 use Rattle.loops.specs.Choices.{either, and-no}
 use Rattle.slots.specs.Slots.{same_slot}
 use Rattle.state.specs.declared.w.W.{W}
-use Rattle.root_sectors.specs.Root.{RootWrite, slot_at, is_own, changed_at, kept_at}
+use Rattle.root_sectors.specs.Root.{RootWrite, slot_at, kept_at}
 use Rattle.judge.specs.Classify.{SectorWrite, root_of}
-use Rattle.admits.specs.Bytes.{slot_as_shown}
 use Rattle.admits.specs.ByteLaws.{kept-slot}
 use Rattle.demand1.specs.Changes.{stores_slot, slot_stored}
 use Rattle.demand1.specs.Turns.{some-same}

@@ -9,7 +9,6 @@ use Rattle.vdisk.specs.Ids.{handed}
 use Rattle.file_table.specs.Table.{Table, max_files, accepts}
 use Rattle.records.specs.declared.Rec.{Rec}
 use Rattle.root_slots.specs.RootSlots.{strict_of}
-use Rattle.root_slots.specs.declared.Strict.{Strict}
 use Rattle.state.specs.State.{initial}
 use Rattle.state.specs.Setters.{with_rw, with_want_rw, with_end_at}
 use Rattle.state.specs.declared.w.Pair.{Pair}
@@ -26,7 +25,6 @@ use Rattle.file_table.specs.declared.VF.{VF}
 use Rattle.session_calls.specs.Calls.{FindsFile}
 use Rattle.session_calls.specs.declared.HandedAnswer.{HandedAnswer}
 use Rattle.state_calls.specs.Answers.{files_owner}
-use Rattle.state_calls.specs.declared.OwnAnswer.{OwnAnswer}
 use Rattle.demand1_sessions.specs.Ends.{MayEnd, clock_set, held_end_due, tick_ends}
 
 -- report gone of a row: 10 for more than 400 files, 21 for a row that isn't in the table or whose file isn't handed, which leave the marks; taken, the

@@ -5,7 +5,7 @@ use Rattle.std.proofs.Common.{true≢false, sym, ◌∙◌, ap, arith}
 use Rattle.std.proofs.Math.ListN.{length}
 use Rattle.loops.specs.Loops.{pick}
 use Rattle.loops.specs.Choices.{either, pick-by, pick-has, and-0, and-1, and-of, or-by, or-l, or-r}
-use Rattle.loops.specs.Rows.{rows, rows-at, rows-length}
+use Rattle.loops.specs.Rows.{rows-at, rows-length}
 use Rattle.bits.specs.Bit.{set_bit}
 use Rattle.bits.specs.Laws.{bit-set-same, bit-set-below, bit-set-above}
 use Rattle.vdisk.specs.Ids.{turned, freed, gone, moved, cleared, handed, unmarked}

@@ -1,5 +1,5 @@
 -- Demand 3: for every table that a start takes, every list of calls and every row.
-use Rattle.std.specs.Prelude.{ℕ, ◌-◌, ◌%◌, ◌<◌, Bool, true, ◌&&◌, ◌||◌, List, [], ◌∷◌, ◌≡◌, leb, ltb, eqb, length, get_or}
+use Rattle.std.specs.Prelude.{ℕ, ◌%◌, ◌<◌, Bool, true, ◌&&◌, ◌||◌, List, [], ◌∷◌, ◌≡◌, leb, ltb, eqb, length, get_or}
 use Rattle.std.proofs.Math.Bool.{false, So}
 use Rattle.std.proofs.lemmas.Bool.{false≢true, eqb-false}
 use Rattle.std.proofs.Math.Path.{refl, sym}
@@ -22,7 +22,7 @@ use Rattle.write.specs.Write.{write as written}
 use Rattle.release.specs.Release.{Ended}
 use Rattle.sessions.specs.Sessions.{Reported, mode_reset, set_read_only as read_only_set, report_gone, start}
 use Rattle.demand3.specs.Step.{Session, Outcome, Medium, Sector, Call, write, poll, release, release_all, bus_reset, reset_mode, set_read_only, report, refused_start, sector_of, lent, of_ended, of_reported, step, id_of}
-use Rattle.demand3.specs.History.{Event, seen, gone_by, named_now, of_staged, event, run, next, begun, since_by, lately, Clean, History, Each, none, more, Demand3}
+use Rattle.demand3.specs.History.{Event, seen, named_now, of_staged, event, run, next, begun, since_by, lately, Clean, History, Each, none, more, Demand3}
 use Rattle.demand3.specs.Induct.{Effect, held-on, Told, told-run, told-none, told-demand}
 use Rattle.demand3.specs.EndLaws.{EndsAs, release_all-ends, release_call-ends, bus_reset-ends, poll-ends}
 use Rattle.demand3.specs.Releases.{release-effect, release-settles, release-kept}

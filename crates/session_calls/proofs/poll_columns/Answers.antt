@@ -1,4 +1,3 @@
-use mathlib.Core.Path.{sym, ◌∙◌}
 use Rattle.session_calls.specs.CallLaws.{end-many, end-few}
 use Rattle.std.proofs.Common.{rules}
 use Rattle.session_calls.proofs.poll_columns.Goals as goal

@@ -1,6 +1,4 @@
-use mathlib.Core.Path.{sym}
 use Rattle.session_calls.specs.CallLaws.{start-many, start-few}
-use native.Mathlib.Omega.{arith}
 use Rattle.session_calls.proofs.start_columns.Goals as goal
 
 pub returns-then-n-gt-MAX_VF : goal.returns-then-n-gt-MAX_VF

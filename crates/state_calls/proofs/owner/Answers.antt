@@ -1,4 +1,3 @@
-use mathlib.Core.Path.{sym, ◌∙◌}
 use borrow.Author.Tests.{lt-ltb, le-ltb}
 use Rattle.state_calls.specs.Answers.{columns_owner}
 use Rattle.state_calls.proofs.owner.Goals as goal

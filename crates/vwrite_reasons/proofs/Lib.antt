@@ -1,2 +1,0 @@
--- What the walks by hand of this crate use.
-pub mod Reasons
