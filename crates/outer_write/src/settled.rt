@@ -28,7 +28,8 @@ pub fn settled(
     let o = settle(*w, f, lba, shown, written);
     if o.settled {
         w.boot = o.boot;
-        w.rec = o.rec;
+        let rec = o.rec;
+        w.rec = rec;
         w.session = o.session;
         w.last = o.last;
         w.err = o.err;

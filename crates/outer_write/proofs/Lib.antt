@@ -1,3 +1,0 @@
--- What the walks by hand of `settled` and `turned` use.
-pub mod Stores
-pub mod Turn
