@@ -9,7 +9,7 @@ use Rattle.loops.specs.Loops.{pick}
 use Rattle.loops.specs.Choices.{pick-by}
 use Rattle.file_table.specs.Table.{max_files, table_of, whole_columns}
 use Rattle.file_table.specs.declared.VF.{VF}
-use Rattle.files.specs.Files.{id_of, dir_slot_of, start_of, size_of, rows_taken, over, columns_of, with_ids}
+use Rattle.files.specs.Files.{id_of, dir_slot_of, start_of, size_of, rows_taken, columns_of, with_ids}
 use Rattle.files.specs.FilesLaws.{column-of, same-ids, no-ids}
 use Rattle.files.specs.declared.Columns.{Columns}
 use Rattle.state.specs.declared.w.W.{W}
