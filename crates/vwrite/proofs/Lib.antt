@@ -1,2 +1,0 @@
--- What the walks by hand of the exported calls share.
-pub mod Arrays
