@@ -2,10 +2,3 @@
 pub mod Bytes
 pub mod Admits
 pub mod Refusals
-pub mod ByteLaws
-pub mod ZeroLaws
-pub mod SearchLaws
-pub mod RootLaws
-pub mod DirLaws
-pub mod AdmitLaws
-pub mod RefusalLaws

@@ -1,3 +1,2 @@
 -- Demand 1 along every list of calls: the statement and its proof.
 pub mod Along
-pub mod Theorem

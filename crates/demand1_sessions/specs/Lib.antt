@@ -1,6 +1,3 @@
 -- Demand 1 of the calls beside `write`.
 pub mod Ends
 pub mod Demand1
-pub mod EndTestLaws
-pub mod EndLaws
-pub mod Theorem

@@ -9,7 +9,7 @@ use Rattle.state.specs.Setters.{with_pair, with_st}
 use Rattle.state.specs.Pairs.{pair_idx, free_pair, drop_at, set_pair}
 use Rattle.state.specs.Staged.{slot_of}
 use Rattle.state.specs.PairLaws.{pair_idx-lt, free_pair-lt}
-use Rattle.state.specs.SetPairLaws.{set_pair-removed, set_pair-over, set_pair-new, set_pair-none, set_pair-full}
+use Rattle.state.proofs.SetPairLaws.{set_pair-removed, set_pair-over, set_pair-new, set_pair-none, set_pair-full}
 use Rattle.state.specs.declared.w.Pair.{Pair}
 use Rattle.state.specs.declared.w.W.{W}
 use Rattle.fat_sectors.specs.declared.stores.Store.{Store}

@@ -1,4 +1,3 @@
 -- The hosts' own files and directories, told by prefixes of their names.
 pub mod Housekeeping
 pub mod EndToEnd
-pub mod PrefixLaws

@@ -3,9 +3,3 @@
 pub mod Seen
 pub mod Kept
 pub mod Does
-pub mod DoesLaws
-pub mod KeptLaws
-pub mod FatMarks
-pub mod DirMarks
-pub mod StageMarks
-pub mod WriteMarks

@@ -1,3 +1,2 @@
 -- Which taken sectors open the session, and that these are the ones that do.
 pub mod Opens
-pub mod OpenLaws

@@ -17,7 +17,7 @@ use Rattle.fat_sectors.specs.Fat.{fat_write}
 use Rattle.fat_sectors.specs.FatLaws.{zeroes-range}
 use Rattle.write.specs.Write.{whole_sectors}
 use Rattle.marks.specs.Seen.{turns_in, turned_in, turns_at, turns_slot, all_zero, zeroes_in, zeroes_at, zeroes_entries, data_names}
-use Rattle.marks.specs.FatMarks.{all_zero-is}
+use Rattle.marks.proofs.FatMarks.{all_zero-is}
 use Rattle.reasons.specs.Reasons.{file_alone, moved_then, with_seen, after_write, after_end}
 use Rattle.reasons.specs.declared.Reason.{Reason}
 

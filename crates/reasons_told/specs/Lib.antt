@@ -1,4 +1,2 @@
 -- What is kept up from call to call is what demand 3 says of the calls.
 pub mod Told
-pub mod VersionLaws
-pub mod Theorem

@@ -2,4 +2,4 @@
 pub mod Lent
 pub mod Fates
 pub mod StageLaws
-pub mod CallLaws
+pub mod Applied

@@ -8,7 +8,7 @@ use Rattle.stage.specs.declared.fate.Fate.{Fate}
 use Rattle.stage.specs.declared.fate.Kept.{Kept}
 use Rattle.stage.specs.declared.slot.SlotFor.{SlotFor}
 use Rattle.stage.specs.Fates.{Meets, slot_in, fate_in}
-use Rattle.stage.specs.CallLaws.{kept_in}
+use Rattle.stage.specs.Applied.{kept_in}
 use Rattle.judge.specs.Classify.{sector_write}
 use Rattle.write.specs.declared.early.Early.{Early}
 use Rattle.write.specs.WriteLaws.{Leaves}

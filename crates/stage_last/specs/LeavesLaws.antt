@@ -18,7 +18,8 @@ use Rattle.stage.specs.declared.fate.Fate.{Fate}
 use Rattle.stage.specs.declared.fate.Kept.{Kept}
 use Rattle.stage.specs.declared.slot.SlotFor.{SlotFor}
 use Rattle.stage.specs.Fates.{Fated, Meets, slot_in, fate_in}
-use Rattle.stage.specs.CallLaws.{kept_in, By, stage-as, settled-as}
+use Rattle.stage.specs.Applied.{kept_in, By}
+use Rattle.stage.proofs.CallLaws.{stage-as, settled-as}
 use Rattle.judge.specs.Classify.{SectorWrite, sector_write, Outcome, refused, unless_shown, data_number, other_data, stage_of, outcome_of, cluster, at_place, classify}
 use Rattle.write.specs.declared.early.Early.{Early}
 use Rattle.write.specs.Write.{settled_state, whole_sectors, table_fits}

@@ -5,7 +5,7 @@ use Rattle.state.specs.Setters.{with_st, with_session, with_last, with_staging, 
 use Rattle.state.specs.declared.w.W.{W}
 use Rattle.stage.specs.declared.fate.Fate.{Fate}
 use Rattle.stage.specs.declared.fate.Kept.{Kept}
-use Rattle.stage.specs.CallLaws.{kept_state}
+use Rattle.stage.specs.Applied.{kept_state}
 use Rattle.write.specs.Write.{taken_state, refused_state, settled_state}
 use Rattle.tally.specs.Tally.{tallied}
 use Rattle.tally.specs.declared.Tallied.{Tallied}

@@ -5,6 +5,3 @@ pub mod Pairs
 pub mod Staged
 pub mod Queries
 pub mod PairLaws
-pub mod LookupLaws
-pub mod SetPairLaws
-pub mod CountLaws

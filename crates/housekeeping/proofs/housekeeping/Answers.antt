@@ -1,7 +1,7 @@
 use mathlib.Core.Path.{refl, sym, ◌∙◌}
 use Rattle.loops.specs.Loops.{some-start, some-go, some-stop, some-end}
 use Rattle.housekeeping.specs.EndToEnd.{prefix_bytes}
-use Rattle.housekeeping.specs.PrefixLaws.{starts, start-in, housekeeping-some}
+use Rattle.housekeeping.proofs.PrefixLaws.{starts, start-in, housekeeping-some}
 use native.Mathlib.Omega.{arith}
 use Rattle.housekeeping.proofs.housekeeping.Goals as goal
 

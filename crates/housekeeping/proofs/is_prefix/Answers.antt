@@ -3,7 +3,7 @@ use mathlib.Core.List.{List}
 use mathlib.Core.Path.{◌≡◌, sym, ap, ◌∙◌}
 use lib.ListN.{length, get_or}
 use Rattle.housekeeping.specs.EndToEnd.{prefix_bytes}
-use Rattle.housekeeping.specs.PrefixLaws.{prefix-short, prefix-start, prefix-go, prefix-stop, prefix-end, row-length}
+use Rattle.housekeeping.proofs.PrefixLaws.{prefix-short, prefix-start, prefix-go, prefix-stop, prefix-end, row-length}
 use native.Mathlib.Omega.{arith}
 use Rattle.housekeeping.proofs.is_prefix.Goals as goal
 

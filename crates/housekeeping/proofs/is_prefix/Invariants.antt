@@ -1,7 +1,7 @@
 use Prim.Native.Nat.{◌-◌, ◌≤◌}
 use mathlib.Core.Path.{◌≡◌}
 use Rattle.housekeeping.specs.Housekeeping.{is_prefix}
-use Rattle.housekeeping.specs.PrefixLaws.{cut, prefix_from}
+use Rattle.housekeeping.proofs.PrefixLaws.{cut, prefix_from}
 use Rattle.housekeeping.proofs.is_prefix.Given as goal
 
 abbrev pub invariant-loop-i : goal.invariant-loop-i

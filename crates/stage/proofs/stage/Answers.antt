@@ -4,7 +4,7 @@ use native.Mathlib.Omega.{arith}
 use Rattle.state.specs.Setters.{with_st, with_staging, with_stage_t, with_hint, with_ver}
 use Rattle.staging.specs.Staging.{Staged, stage_write, move_id, moved_ids}
 use Rattle.stage.specs.declared.slot.SlotFor.{SlotFor}
-use Rattle.stage.specs.CallLaws.{stage-by, slot-lt}
+use Rattle.stage.proofs.CallLaws.{stage-by, slot-lt}
 use Rattle.stage.proofs.stage.Goals as goal
 
 -- src/lib.rt:222:5

@@ -1,0 +1,19 @@
+-- The laws that other crates and the proofs cite.
+pub mod Area
+pub mod DirFrame
+pub mod Fair
+pub mod FatFrame
+pub mod FatOwn
+pub mod FatSets
+pub mod FatSlots
+pub mod Judged
+pub mod Room
+pub mod RootFrame
+pub mod RootOwn
+pub mod RootSets
+pub mod SlotLaws
+pub mod Soundness
+pub mod StageFair
+pub mod StageFrame
+pub mod Theorem
+pub mod Turns

@@ -1,0 +1,4 @@
+-- The laws that other crates and the proofs cite.
+pub mod CountLaws
+pub mod LookupLaws
+pub mod SetPairLaws
