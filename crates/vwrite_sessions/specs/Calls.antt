@@ -1,5 +1,5 @@
 -- What each call of a session that a firmware links answers and leaves: the contracts of the crate cite these.
-use Rattle.std.specs.Prelude.{ℕ, Bool, List, ◌≡◌}
+use Rattle.std.specs.Prelude.{ℕ, Bool, true, false, List, ◌≡◌}
 use Rattle.file_table.specs.Table.{columns}
 use Rattle.file_table.specs.declared.VF.{VF}
 use Rattle.state.specs.declared.w.W.{W}
