@@ -148,7 +148,6 @@ fn owners_unsorted(out: &mut Output<impl Write>) {
     );
 }
 
-#[derive(Drop)]
 #[derive(Clone, Copy)]
 enum Lookup {
     Nclus,
