@@ -1,3 +1,2 @@
 -- Why a file is handed to deletion, kept up from call to call.
 pub mod Reasons
-pub mod ReasonLaws

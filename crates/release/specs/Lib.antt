@@ -3,5 +3,3 @@ pub mod Undecided
 pub mod Release
 pub mod ReleaseLaws
 pub mod Notes
-pub mod NoteLaws
-pub mod WaitLaws

@@ -1,3 +1,2 @@
 -- The calls of a session over the lent table, of its columns.
 pub mod Calls
-pub mod CallLaws

@@ -14,7 +14,7 @@ use Rattle.root_slots.specs.RootSlots.{slot_admitted}
 use Rattle.root_sectors.specs.Root.{RootWrite, root_write, start_fits, slot_number, refused_at, needs_rec, kept_at, root_number, root_changed}
 use Rattle.root_sectors.specs.Records.{keep_rec, root_records}
 use Rattle.last_file.specs.LastFile.{last_in, decides}
-use Rattle.last_file.specs.LastLaws.{same-host}
+use Rattle.last_file.proofs.HostLaws.{same-host}
 use Rattle.settle_last.specs.Fates.{slot_decided, root_decided, root_last}
 
 module _ (ids starts sizes : List ℕ) (first : ℕ) (ps : List Pair) (recs : List Rec) (s : ℕ) (shown written : List ℕ) (long : length starts ≡ length ids) where

@@ -20,7 +20,7 @@ use Rattle.stage.specs.declared.slot.SlotFor.{SlotFor}
 use Rattle.stage.specs.Fates.{slot_in}
 use Rattle.stage.specs.Lent.{SlotLent}
 use Rattle.judge.specs.JudgeLaws.{data-lt}
-use Rattle.write.specs.EarlyLaws.{as-long}
+use Rattle.write.proofs.EarlyLaws.{as-long}
 use Rattle.write.specs.declared.early.Early.{Early}
 use Rattle.last_file.specs.LastFile.{decides}
 use Rattle.last_file.specs.declared.LastFile.{LastFile}

@@ -25,7 +25,8 @@ use Rattle.write.specs.declared.early.Early.{Early}
 use Rattle.write.specs.Write.{settled_state, whole_sectors, table_fits}
 use Rattle.write.specs.WriteLaws.{Leaves, lent-by, judged}
 use Rattle.last_file.specs.LastFile.{last_in}
-use Rattle.last_file.specs.LastLaws.{SameOwn, reserved, fixed, free, row, same-owner, same-host}
+use Rattle.last_file.specs.LastLaws.{SameOwn, reserved, fixed, free, row, same-owner}
+use Rattle.last_file.proofs.HostLaws.{same-host}
 use Rattle.last_file.specs.declared.LastFile.{LastFile}
 use Rattle.stage_last.specs.StageLast.{noted_id, noted_ids}
 use Rattle.stage_last.specs.Decided.{early, host_last, last_number, early_last}

@@ -16,7 +16,8 @@ use Rattle.state.specs.declared.w.W.{W}
 use Rattle.judge.specs.Classify.{SectorWrite, sector_write}
 use Rattle.write.specs.Write.{Written, write, whole_sectors, table_fits}
 use Rattle.write.specs.WriteLaws.{not-whole, not-fit}
-use Rattle.write.specs.EarlyLaws.{early_of, tallied, tally_in, Settles, settled-early}
+use Rattle.write.specs.Early.{early_of, tallied, tally_in}
+use Rattle.write.proofs.EarlyLaws.{Settles, settled-early}
 use Rattle.write.specs.declared.early.Early.{Early}
 use Rattle.write.specs.declared.early.Tally.{Tally}
 use Rattle.table_calls.specs.Calls.{files_write, WritesBy, too_many, columns_write, columns_written}

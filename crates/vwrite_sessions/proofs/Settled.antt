@@ -10,7 +10,7 @@ use Rattle.files.specs.Files.{rows_taken, columns_of, with_ids}
 use Rattle.files.specs.declared.Columns.{Columns}
 use Rattle.release.specs.Release.{Lending, Ended, fits, turned_down}
 use Rattle.session_calls.specs.Calls.{EndsBy}
-use Rattle.session_calls.specs.CallLaws.{LeavesColumns, ends-by}
+use Rattle.session_calls.proofs.CallLaws.{LeavesColumns, ends-by}
 use Rattle.session_calls.specs.declared.Closed.{Closed}
 
 module _ (call : Lending → W → Ended) (Turns-down : (x : Lending) (w : W) → fits x ≡ false → call x w ≡ turned_down x w 10) (fat area : List ℕ) (files : List VF) (w : W) where

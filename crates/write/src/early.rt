@@ -1,7 +1,7 @@
 // What `write` answers without the table and without the rest of the state, so that the callers needn't copy them.
 ghost use Rattle.std.specs.Prelude.{◌≡◌};
 ghost use Rattle.vdisk.specs.Drive.{place_of, dir_kind_of};
-ghost use Rattle.write.specs.EarlyLaws.{is_directory, unstaged_at, early_of, tally_of};
+ghost use Rattle.write.specs.Early.{is_directory, unstaged_at, early_of, tally_of};
 
 use crate::lent::whole_sectors;
 use crate::settle::error_of;

@@ -2,7 +2,7 @@ use mathlib.Core.Bool.{false}
 use mathlib.Core.Path.{sym, ◌∙◌}
 use borrow.Author.Tests.{eq-eqb, ne_eqb}
 use Rattle.loops.specs.Choices.{and-no, and-of}
-use Rattle.reasons.specs.ReasonLaws.{and-first, after-marked}
+use Rattle.reasons.proofs.ReasonLaws.{and-first, after-marked}
 use Rattle.reasons.specs.Reasons.{after_end}
 use Rattle.reasons.proofs.after_end.Goals as goal
 

@@ -1,7 +1,7 @@
 use mathlib.Core.Path.{sym, ◌∙◌}
 use Rattle.judge.specs.JudgeLaws.{fat-lt}
 use Rattle.marks.specs.Seen.{turns_at, zeroes_at}
-use Rattle.reasons.specs.ReasonLaws.{after-refused, after-part, after-place, after-fat, after-data, whole-lengths}
+use Rattle.reasons.proofs.ReasonLaws.{after-refused, after-part, after-place, after-fat, after-data, whole-lengths}
 use Rattle.reasons.proofs.after_write.Goals as goal
 
 pub returns-then-number-ne0 : goal.returns-then-number-ne0

@@ -3,7 +3,7 @@ use native.Mathlib.Omega.{arith}
 use borrow.Author.Tests.{eq-eqb, ne_eqb}
 use Rattle.loops.specs.Loops.{all-go, all-stop, all-end}
 use Rattle.vdisk.specs.DriveLaws.{clusters_of-le}
-use Rattle.reasons.specs.ReasonLaws.{all_zero-range}
+use Rattle.reasons.proofs.ReasonLaws.{all_zero-range}
 use Rattle.reasons.proofs.all_zero.Goals as goal
 
 pub nclus-requires : goal.nclus-requires

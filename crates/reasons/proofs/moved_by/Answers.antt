@@ -1,4 +1,4 @@
-use Rattle.reasons.specs.ReasonLaws.{moved-was, moved-unturned, moved-unstaged, moved-zero, moved-names}
+use Rattle.reasons.proofs.ReasonLaws.{moved-was, moved-unturned, moved-unstaged, moved-zero, moved-names}
 use mathlib.Core.Path.{sym, ◌∙◌}
 use Rattle.reasons.proofs.moved_by.Goals as goal
 

@@ -1,6 +1,6 @@
 use mathlib.Core.Path.{sym, ◌∙◌}
 use borrow.Author.Tests.{eq-eqb, ne_eqb}
-use Rattle.reasons.specs.ReasonLaws.{turns-dir, turns-none}
+use Rattle.reasons.proofs.ReasonLaws.{turns-dir, turns-none}
 use Rattle.reasons.proofs.turns.Goals as goal
 
 pub returns-then-id_dir-k : goal.returns-then-id_dir-k

@@ -1,4 +1,4 @@
-use Rattle.session_calls.specs.CallLaws.{end-many, end-few}
+use Rattle.session_calls.proofs.CallLaws.{end-many, end-few}
 use Rattle.std.proofs.Common.{rules}
 use Rattle.session_calls.proofs.poll_columns.Goals as goal
 

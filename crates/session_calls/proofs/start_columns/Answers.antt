@@ -1,4 +1,4 @@
-use Rattle.session_calls.specs.CallLaws.{start-many, start-few}
+use Rattle.session_calls.proofs.CallLaws.{start-many, start-few}
 use Rattle.session_calls.proofs.start_columns.Goals as goal
 
 pub returns-then-n-gt-MAX_VF : goal.returns-then-n-gt-MAX_VF

@@ -4,7 +4,7 @@ use mathlib.Core.Path.{◌∙◌, ap}
 use Rattle.loops.specs.Rows.{rows}
 use Rattle.release.specs.Release.{lending}
 use Rattle.release.specs.Notes.{settled_id}
-use Rattle.release.specs.NoteLaws.{released-noted}
+use Rattle.release.proofs.NoteLaws.{released-noted}
 use Rattle.release.proofs.ids.release_ids.Goals as goal
 
 pub returns : goal.returns

@@ -1,7 +1,7 @@
 use mathlib.Core.Path.{refl, sym, ◌∙◌}
 use lib.ListN.{length-set}
 use native.Mathlib.Omega.{arith}
-use Rattle.release.specs.WaitLaws.{list-more, list-past, list-end}
+use Rattle.release.proofs.WaitLaws.{list-more, list-past, list-end}
 use Rattle.release.proofs.notes.list_waiting.Goals as goal
 
 pub loop-j-init : goal.loop-j-init

@@ -4,7 +4,7 @@ use native.Mathlib.Omega.{arith}
 use borrow.Author.Tests.{ne_eqb}
 use Rattle.medium.specs.Reads.{sector_of}
 use Rattle.release.specs.Notes.{InTable, by_sector}
-use Rattle.release.specs.NoteLaws.{passed-start, passed-go, passed-end, passes-end, cluster-none, cluster-some}
+use Rattle.release.proofs.NoteLaws.{passed-start, passed-go, passed-end, passes-end, cluster-none, cluster-some}
 use Rattle.release.proofs.notes.note_cluster.Invariants.{names}
 use Rattle.release.proofs.notes.note_cluster.Goals as goal
 

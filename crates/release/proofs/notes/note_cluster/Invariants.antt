@@ -4,7 +4,7 @@ use mathlib.Core.List.{List}
 use Rattle.state.specs.declared.w.St.{St}
 use Rattle.medium.specs.Reads.{sector_of}
 use Rattle.release.specs.Notes.{listed, by_sector}
-use Rattle.release.specs.NoteLaws.{Passed}
+use Rattle.release.proofs.NoteLaws.{Passed}
 use Rattle.release.proofs.notes.note_cluster.Given as goal
 
 -- row j is listed, and sector s names it

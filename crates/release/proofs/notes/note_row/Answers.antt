@@ -1,6 +1,6 @@
 use mathlib.Core.Path.{sym, ◌∙◌}
 use borrow.Author.Tests.{eq-eqb, ne_eqb}
-use Rattle.release.specs.NoteLaws.{note-unnamed, note-idle, note-waiting}
+use Rattle.release.proofs.NoteLaws.{note-unnamed, note-idle, note-waiting}
 use Rattle.release.proofs.notes.note_row.Goals as goal
 
 pub returns-then-slot_start-at : goal.returns-then-slot_start-at

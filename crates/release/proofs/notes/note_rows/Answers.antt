@@ -2,7 +2,7 @@ use mathlib.Core.Path.{◌∙◌, ap}
 use lib.ListN.{length, get_or, set}
 use native.Mathlib.Omega.{arith}
 use Rattle.release.specs.Notes.{has_file}
-use Rattle.release.specs.NoteLaws.{passed-start, passed-go, passed-end, set-noted, listed-end}
+use Rattle.release.proofs.NoteLaws.{passed-start, passed-go, passed-end, set-noted, listed-end}
 use Rattle.release.proofs.notes.note_rows.Invariants.{names}
 use Rattle.release.proofs.notes.note_rows.Goals as goal
 

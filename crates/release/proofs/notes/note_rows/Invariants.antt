@@ -4,7 +4,7 @@ use mathlib.Core.List.{List}
 use lib.Dec.{eqb}
 use lib.ListN.{length, get_or}
 use Rattle.release.specs.Notes.{has_file}
-use Rattle.release.specs.NoteLaws.{Passed}
+use Rattle.release.proofs.NoteLaws.{Passed}
 use Rattle.release.proofs.notes.note_rows.Given as goal
 
 -- the k-th of the list is row j, which has that start and length

@@ -3,7 +3,7 @@ use mathlib.Core.Path.{sym, ◌∙◌, subst}
 use native.Mathlib.Omega.{arith}
 use Rattle.slots.specs.Slots.{refers_to}
 use Rattle.release.specs.Notes.{InTable, by_slot}
-use Rattle.release.specs.NoteLaws.{passed-start, passed-go, passed-end, passes-end}
+use Rattle.release.proofs.NoteLaws.{passed-start, passed-go, passed-end, passes-end}
 use Rattle.release.proofs.notes.note_sector.Invariants.{names}
 use Rattle.release.proofs.notes.note_sector.Goals as goal
 

@@ -2,7 +2,7 @@ use Prim.Native.Nat.{ℕ, ◌≤◌, ◌-◌, ◌*◌}
 use mathlib.Core.Bool.{Bool}
 use mathlib.Core.List.{List}
 use Rattle.release.specs.Notes.{listed, by_slot}
-use Rattle.release.specs.NoteLaws.{Passed}
+use Rattle.release.proofs.NoteLaws.{Passed}
 use Rattle.release.proofs.notes.note_sector.Given as goal
 
 -- row j is listed, and slot i names it

@@ -1,5 +1,5 @@
 use mathlib.Core.Path.{sym, ◌∙◌}
-use Rattle.release.specs.NoteLaws.{slot-none, slot-some}
+use Rattle.release.proofs.NoteLaws.{slot-none, slot-some}
 use Rattle.release.proofs.notes.note_slot.Goals as goal
 
 pub returns-then-not-is_ordinary : goal.returns-then-not-is_ordinary

@@ -7,8 +7,8 @@ use native.Mathlib.Omega.{arith}
 use Rattle.state.specs.State.{max_slots, no_st}
 use Rattle.medium.specs.Reads.{moved_ref}
 use Rattle.release.specs.Notes.{noted, InTable, listed, by_cluster, by_staged}
-use Rattle.release.specs.NoteLaws.{passed-start, passed-go, passed-end, passes-end}
-use Rattle.release.specs.WaitLaws.{waiters-in, waiters-noted, none-waits}
+use Rattle.release.proofs.NoteLaws.{passed-start, passed-go, passed-end, passes-end}
+use Rattle.release.proofs.WaitLaws.{waiters-in, waiters-noted, none-waits}
 use Rattle.release.proofs.notes.note_staged.Invariants.{names}
 use Rattle.release.proofs.notes.note_staged.Goals as goal
 

@@ -5,7 +5,7 @@ use lib.ListN.{get_or, take}
 use Rattle.state.specs.State.{max_slots, no_st}
 use Rattle.state.specs.declared.w.St.{St}
 use Rattle.release.specs.Notes.{listed, by_cluster}
-use Rattle.release.specs.NoteLaws.{Passed}
+use Rattle.release.proofs.NoteLaws.{Passed}
 use Rattle.release.proofs.notes.note_staged.Given as goal
 
 -- row j is listed, and staged cluster i names it

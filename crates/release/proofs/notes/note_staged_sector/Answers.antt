@@ -6,7 +6,7 @@ use native.Mathlib.Omega.{arith}
 use Rattle.medium.specs.Reads.{held_block, sector_of}
 use Rattle.medium.specs.MediumLaws.{block-in, block-length, sector-none, sector-held}
 use Rattle.release.specs.Notes.{noted, listed, by_sector}
-use Rattle.release.specs.NoteLaws.{sector-empty, not-written, held-here}
+use Rattle.release.proofs.NoteLaws.{sector-empty, not-written, held-here}
 use Rattle.release.proofs.notes.note_staged_sector.Goals as goal
 
 pub returns-then-not-test_u64 : goal.returns-then-not-test_u64

@@ -1,5 +1,5 @@
 use Rattle.sessions.specs.Sessions.{bus_reset_call}
-use Rattle.session_calls.specs.CallLaws.{bus-reset-down}
+use Rattle.session_calls.proofs.CallLaws.{bus-reset-down}
 use Rattle.vwrite_sessions.proofs.Settled.{settles}
 use Rattle.vwrite_sessions.proofs.ends.vdisk_on_bus_reset.Goals as goal
 

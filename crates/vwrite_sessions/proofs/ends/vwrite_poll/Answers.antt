@@ -1,5 +1,5 @@
 use Rattle.sessions.specs.Poll.{poll_call}
-use Rattle.session_calls.specs.CallLaws.{poll-down}
+use Rattle.session_calls.proofs.CallLaws.{poll-down}
 use Rattle.vwrite_sessions.proofs.Settled.{settles}
 use Rattle.vwrite_sessions.proofs.ends.vwrite_poll.Goals as goal
 

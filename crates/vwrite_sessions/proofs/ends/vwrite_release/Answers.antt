@@ -1,5 +1,5 @@
 use Rattle.release.specs.Release.{release_call}
-use Rattle.session_calls.specs.CallLaws.{release-down}
+use Rattle.session_calls.proofs.CallLaws.{release-down}
 use Rattle.vwrite_sessions.proofs.Settled.{settles}
 use Rattle.vwrite_sessions.proofs.ends.vwrite_release.Goals as goal
 

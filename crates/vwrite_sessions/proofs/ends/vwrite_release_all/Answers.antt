@@ -1,5 +1,5 @@
 use Rattle.release.specs.Release.{release_all_call}
-use Rattle.session_calls.specs.CallLaws.{release-all-down}
+use Rattle.session_calls.proofs.CallLaws.{release-all-down}
 use Rattle.vwrite_sessions.proofs.Settled.{settles}
 use Rattle.vwrite_sessions.proofs.ends.vwrite_release_all.Goals as goal
 

@@ -3,7 +3,7 @@ use mathlib.Core.Path.{ap, subst, sym, ◌∙◌}
 use lib.ListN.{length}
 use Rattle.files.specs.Files.{id_of}
 use Rattle.session_calls.specs.Calls.{FindsFile, handed_answer}
-use Rattle.session_calls.specs.CallLaws.{finds-first}
+use Rattle.session_calls.proofs.CallLaws.{finds-first}
 use Rattle.vwrite_sessions.proofs.gone.vwrite_find_handed.Goals as goal
 
 pub returns : goal.returns

@@ -1,7 +1,7 @@
 use mathlib.Core.Path.{ap, ◌∙◌}
 use lib.ListN.{length}
 use Rattle.session_calls.specs.Calls.{row_reported}
-use Rattle.session_calls.specs.CallLaws.{row-reports}
+use Rattle.session_calls.proofs.CallLaws.{row-reports}
 use Rattle.vwrite_sessions.proofs.gone.vwrite_report_gone.Goals as goal
 
 pub returns : goal.returns

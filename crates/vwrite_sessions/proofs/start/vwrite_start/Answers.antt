@@ -1,7 +1,7 @@
 use mathlib.Core.Path.{ap, subst, ◌∙◌}
 use Rattle.files.specs.declared.Columns.{Columns}
 use Rattle.sessions.specs.Sessions.{Started}
-use Rattle.session_calls.specs.CallLaws.{LeavesStart, starts-by}
+use Rattle.session_calls.proofs.CallLaws.{LeavesStart, starts-by}
 use Rattle.vwrite_sessions.proofs.start.vwrite_start.Goals as goal
 
 pub returns : goal.returns

@@ -1,7 +1,7 @@
-use Rattle.write.specs.EarlyLaws.{as-long}
+use Rattle.write.proofs.EarlyLaws.{as-long}
 use mathlib.Core.Path.{sym, ◌∙◌}
 use borrow.Author.Tests.{lt-ltb, le-ltb, le-leb, lt-leb}
-use Rattle.write.specs.EarlyLaws.{early_of}
+use Rattle.write.specs.Early.{early_of}
 use Rattle.write.proofs.early.early_of.Goals as goal
 
 pub returns-then-not-whole_sectors : goal.returns-then-not-whole_sectors

@@ -1,5 +1,5 @@
 use mathlib.Core.Path.{sym, ◌∙◌}
-use Rattle.write.specs.EarlyLaws.{is_directory}
+use Rattle.write.specs.Early.{is_directory}
 use Rattle.write.proofs.early.is_directory.Goals as goal
 
 pub returns-in_default : goal.returns-in_default

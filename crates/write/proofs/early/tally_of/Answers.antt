@@ -1,5 +1,5 @@
 use borrow.Author.Tests.{eq-eqb, ne_eqb}
-use Rattle.write.specs.EarlyLaws.{tally_of}
+use Rattle.write.specs.Early.{tally_of}
 use Rattle.write.proofs.early.tally_of.Goals as goal
 
 pub returns-then-no-eq0 : goal.returns-then-no-eq0

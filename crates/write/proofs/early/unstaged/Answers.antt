@@ -1,5 +1,5 @@
 use mathlib.Core.Path.{sym, ◌∙◌}
-use Rattle.write.specs.EarlyLaws.{unstaged_at}
+use Rattle.write.specs.Early.{unstaged_at}
 use Rattle.write.proofs.early.unstaged.Goals as goal
 
 pub returns-in-Boot : goal.returns-in-Boot

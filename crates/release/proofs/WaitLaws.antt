@@ -8,7 +8,7 @@ use Rattle.loops.specs.Choices.{either, pick-by}
 use Rattle.loops.specs.Facts.{some-at}
 use Rattle.loops.specs.Rows.{rows-at}
 use Rattle.release.specs.Notes.{waits, note_id, noted, waiters_from, waiters, has_row, InTable, listed}
-use Rattle.release.specs.NoteLaws.{note-idle, noted-none, noted-length}
+use Rattle.release.proofs.NoteLaws.{note-idle, noted-none, noted-length}
 
 -- the list of the rows that wait: its rows are of the table, and it has all that wait
 cons-lt : (i m : ℕ) (rs : List ℕ) → ((n : ℕ) → n < length rs → get_or rs n 0 < i + 1 + m) → (k : ℕ) → k < length (i ∷ rs) → get_or (i ∷ rs) k 0 < i + suc m

@@ -1,0 +1,2 @@
+-- The laws that other crates and the proofs cite.
+pub mod ReasonLaws

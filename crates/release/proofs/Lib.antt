@@ -1,0 +1,3 @@
+-- The laws that other crates and the proofs cite.
+pub mod NoteLaws
+pub mod WaitLaws
