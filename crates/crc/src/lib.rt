@@ -46,10 +46,8 @@ pub fn crc16_upd(c: u16, bytes: &[u8]) -> u16
 {
     let entries = TABLE;
     let mut out = c;
-    let mut i = 0;
-    while i < bytes.len() {
-        out = crc_byte(&entries, out, bytes[i]);
-        i += 1;
+    for b in bytes {
+        out = crc_byte(&entries, out, *b);
     }
     out
 }

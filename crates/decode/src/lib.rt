@@ -35,11 +35,8 @@ fn decoded_byte(i: usize, b: u8, kp: usize, k: u8, a: u8) -> u8
 fn decode_bytes(p: &mut [u8], kp: usize, k: u8, a: u8)
     ensures { p.new ≡ rows (decoded_with kp k a) p.old }
 {
-    let mut i = 0;
-    while i < p.len() {
-        let b = decoded_byte(i, p[i], kp, k, a);
-        p[i] = b;
-        i += 1;
+    for (i, b) in p.iter_mut().enumerate() {
+        *b = decoded_byte(i, *b, kp, k, a);
     }
 }
 

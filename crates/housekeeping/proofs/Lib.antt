@@ -1,2 +1,3 @@
 -- The laws that other crates and the proofs cite.
 pub mod PrefixLaws
+pub mod ByteLaws

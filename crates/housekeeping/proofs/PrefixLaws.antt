@@ -1,9 +1,11 @@
 -- The prefixes as the code finds them: cut out of their row, one from each start to the next.
 use Rattle.std.specs.Prelude.{ℕ, zero, suc, ◌+◌, ◌-◌, ◌<◌, ◌≤◌, Bool, true, false, ◌&&◌, ◌||◌, List, [], ◌∷◌, ◌≡◌, refl, leb, eqb, length, get_or, take, drop}
-use Rattle.std.proofs.Common.{sym, ◌∙◌, ap, length-drop, length-take-le, get_or-take, get_or-drop}
+use Rattle.std.specs.List.{starts_with}
+use Rattle.std.proofs.Common.{sym, ◌∙◌, ap, add-one}
+use Rattle.std.proofs.Math.Dec.{leb-suc-zero, leb-suc-suc}
 use native.Mathlib.Omega.{arith}
-use borrow.Author.Tests.{le-leb, lt-leb, eq-eqb, ne_eqb, leb-true}
-use Rattle.loops.specs.Loops.{all, some, listed, all-start, all-go, all-stop, all-end}
+use borrow.Author.Tests.{leb-true, le-leb}
+use Rattle.loops.specs.Loops.{pick, all, some, listed}
 use Rattle.loops.specs.Choices.{and-0, and-1}
 use Rattle.loops.specs.Facts.{all-at}
 use Rattle.housekeeping.specs.Housekeeping.{is_prefix, prefixes, some_prefix, is_housekeeping}
@@ -51,44 +53,26 @@ pub row-length : length prefix_bytes ≡ 126
 unfolding prefix_bytes
 row-length = refl
 
-cut-length : (a b : ℕ) → a ≤ b → b ≤ 126 → length (cut a b) ≡ b - a
-cut-length a b l h = length-take-le (b - a) (drop a prefix_bytes) (omega (arith, length-drop a prefix_bytes, row-length))
+all-shift : (p q : ℕ → Bool) (n i : ℕ) → ((k : ℕ) → p (k + 1) ≡ q k) → all p n (i + 1) ≡ all q n i
+unfolding all
+all-shift p q zero i f = refl
+all-shift p q (suc n) i f = rw (f i, all-shift p q n (i + 1) f)
 
-cut-at : (a b i : ℕ) → a ≤ i → i < b → get_or (cut a b) (i - a) 0 ≡ get_or prefix_bytes i 0
-cut-at a b i l h =
-    let e : a + (i - a) ≡ i = omega arith in
-    get_or-take (b - a) (drop a prefix_bytes) (i - a) 0 (omega arith) ∙ get_or-drop a prefix_bytes (i - a) 0 ∙ rw e
+and-swap : (a b c : Bool) → (a && (b && c)) ≡ (b && pick a c false)
+and-swap true b c = refl
+and-swap false true c = refl
+and-swap false false c = refl
 
-abbrev same_at : ℕ → ℕ → List ℕ → ℕ → Bool
-same_at a b name k = eqb (get_or (cut a b) k 0) (get_or name k 0)
-
--- are the bytes of the row from i to b those of the name from i - a on
-unfoldable pub prefix_from : ℕ → ℕ → List ℕ → ℕ → Bool
-prefix_from a b name i = all (same_at a b name) (b - a - (i - a)) (i - a)
-
-module _ (a b : ℕ) (name : List ℕ) (l : a ≤ b) (h : b ≤ 126) where
-  pub prefix-short : length name < b - a → false ≡ is_prefix (cut a b) name
-  unfolding is_prefix
-  prefix-short s = rw (cut-length a b l h, lt-leb (b - a) (length name) s)
-
-  pub prefix-start : b - a ≤ length name → is_prefix (cut a b) name ≡ prefix_from a b name a
-  unfolding is_prefix prefix_from
-  prefix-start s =
-      let e : a - a ≡ 0 = omega arith in
-      rw (cut-length a b l h, le-leb (b - a) (length name) s, e, ← all-start (same_at a b name) (b - a))
-
-module _ (a b : ℕ) (name : List ℕ) (i : ℕ) (w : Bool) (inv : w ≡ prefix_from a b name i) (l : a ≤ i) where
-  pub prefix-go : i < b → get_or prefix_bytes i 0 ≡ get_or name (i - a) 0 → w ≡ prefix_from a b name (i + 1)
-  unfolding prefix_from
-  prefix-go h e =
-      let n : i + 1 - a ≡ i - a + 1 = omega arith in
-      rw n (all-go (same_at a b name) (b - a) (i - a) w inv (omega arith) (eq-eqb _ _ (cut-at a b i l h ∙ e)))
-
-  pub prefix-stop : i < b → (get_or prefix_bytes i 0 ≡ get_or name (i - a) 0 → ⊥) → false ≡ w
-  unfolding prefix_from
-  prefix-stop h e =
-      all-stop (same_at a b name) (b - a) (i - a) w inv (omega arith) (ne_eqb _ _ (λ q. e (sym (cut-at a b i l h) ∙ q)))
-
-  pub prefix-end : b ≤ i → true ≡ w
-  unfolding prefix_from
-  prefix-end h = all-end (same_at a b name) (b - a) (i - a) w inv (omega arith)
+-- what a name starts with is a prefix of it
+pub starts-prefix : (p name : List ℕ) → starts_with eqb name p ≡ is_prefix p name
+unfolding is_prefix all
+starts-prefix [] name = rw (le-leb 0 (length name) (omega arith))
+starts-prefix (x ∷ p) [] = rw (leb-suc-zero (length p))
+starts-prefix (x ∷ p) (y ∷ name) =
+    let rest : ℕ → Bool = λ k. eqb (get_or p k 0) (get_or name k 0) in
+    rw (
+      starts-prefix p name,
+      leb-suc-suc (length p) (length name),
+      all-shift (λ k. eqb (get_or (x ∷ p) k 0) (get_or (y ∷ name) k 0)) rest (length p) 0 (λ k. rw (add-one k)),
+    )
+    (and-swap (eqb x y) (leb (length p) (length name)) (all rest (length p) 0))

@@ -18,31 +18,19 @@ fn is_prefix(bytes: &[u8], at: usize, end: usize, name: &[u8]) -> bool
     requires part { (at ≤ end) × (end ≤ 126) }
     ensures { result ≡ is_prefix (take (end - at) (drop at prefix_bytes)) name.now }
 {
-    if name.len() < end - at {
-        return false;
-    }
-    let mut i = at;
-    while i < end {
-        if bytes[i] != name[i - at] {
-            return false;
-        }
-        i += 1;
-    }
-    true
+    name.starts_with(&bytes[at..end])
 }
 
-// The row and the starts are copied once: read by name in the loop, they would be made anew for each byte.
+// The row and the starts are copied once: read by name in the loop, they would be made anew at each turn.
 pub fn housekeeping(name: &[u8]) -> bool
     ensures { result ≡ is_housekeeping name.now }
 {
     let bytes = PREFIXES;
     let starts = STARTS;
-    let mut i = 0;
-    while i < 10 {
+    for i in 0..10 {
         if is_prefix(&bytes, starts[i], starts[i + 1], name) {
             return true;
         }
-        i += 1;
     }
     false
 }

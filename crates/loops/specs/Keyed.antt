@@ -1,5 +1,5 @@
 -- Lists of n places, each in use for a number, and free where the number is 0: what a search finds, and what setting one place does to it.
-use Rattle.std.specs.Prelude.{ℕ, zero, suc, ◌+◌, ◌<◌, Bool, true, false, not, ◌&&◌, List, [], ◌∷◌, ◌≡◌, refl, eqb, ltb, length, get_or, set}
+use Rattle.std.specs.Prelude.{ℕ, zero, suc, ◌+◌, ◌<◌, Bool, true, false, not, ◌&&◌, List, [], ◌∷◌, ◌≡◌, refl, eqb, ltb, length, get_or, set, Some, None}
 use Rattle.std.proofs.Common.{true≢false, sym, ◌∙◌, ap, arith, get_or-set_same, get_or-set_other, eqb-true, eq-eqb, ne_eqb, ltb-true, ltb-false}
 use Rattle.std.proofs.Math.ListN.{get_or-eq_default}
 use Rattle.std.proofs.lemmas.Bool.{eqb-false, not-true}
@@ -7,7 +7,6 @@ use Rattle.loops.specs.Loops.{count}
 use Rattle.loops.specs.Choices.{either, and-0, and-1, and-of, and-no}
 use Rattle.loops.specs.Facts.{count-same, count-more}
 use Rattle.loops.specs.Found.{find, find-lt, find-is, find-none, find-below, find-first, find-nothing, find-same}
-use Rattle.loops.specs.declared.Found.TheVariants.{At, Nothing}
 
 -- in use for c, with the number x
 abbrev pub used_for : ℕ → ℕ → Bool
@@ -44,14 +43,14 @@ module _ {A : Type 0} (key : A → ℕ) (d : A) where
   NoTwiceOf n xs = (i j : ℕ) → i < n → j < n → (key (get_or xs i d) ≡ 0 → ⊥) → key (get_or xs i d) ≡ key (get_or xs j d) → i ≡ j
 
 module _ {A : Type 0} (key : A → ℕ) (d : A) (n : ℕ) (xs : List A) where
-  pub used-found : (c i : ℕ) → find (used_place key d xs c) n ≡ At i → (key (get_or xs i d) ≡ c) × (c ≡ 0 → ⊥)
+  pub used-found : (c i : ℕ) → find (used_place key d xs c) n ≡ Some i → (key (get_or xs i d) ≡ c) × (c ≡ 0 → ⊥)
   used-found c i e = used-is (key (get_or xs i d)) c (find-is (used_place key d xs c) n i e)
 
-  pub used-none : (c i : ℕ) → find (used_place key d xs c) n ≡ Nothing → (c ≡ 0 → ⊥) → i < n → key (get_or xs i d) ≡ c → ⊥
+  pub used-none : (c i : ℕ) → find (used_place key d xs c) n ≡ None → (c ≡ 0 → ⊥) → i < n → key (get_or xs i d) ≡ c → ⊥
   used-none c i e h l q = true≢false (sym (used-of (key (get_or xs i d)) c q h) ∙ find-none (used_place key d xs c) n i e l)
 
   -- where no number stands twice, its place is the one found
-  pub used-only : NoTwiceOf key d n xs → (c i : ℕ) → i < n → key (get_or xs i d) ≡ c → (c ≡ 0 → ⊥) → find (used_place key d xs c) n ≡ At i
+  pub used-only : NoTwiceOf key d n xs → (c i : ℕ) → i < n → key (get_or xs i d) ≡ c → (c ≡ 0 → ⊥) → find (used_place key d xs c) n ≡ Some i
   used-only t c i l q h =
       find-first (used_place key d xs c) n i l (used-of (key (get_or xs i d)) c q h)
       (λ k m. used-no (key (get_or xs k d)) c (λ r. let z = t k i (omega arith) l (λ w. h (sym r ∙ w)) (r ∙ sym q) in omega arith))
@@ -62,7 +61,7 @@ module _ {A : Type 0} (key : A → ℕ) (d : A) (n : ℕ) (xs : List A) where
       either (ltb i (length xs)) (ltb-true i (length xs))
       (λ e. absurd (h (ap key (get_or-eq_default xs d (ltb-false i (length xs) e)) ∙ z)))
 
-  pub found-in : key d ≡ 0 → (c i : ℕ) → find (used_place key d xs c) n ≡ At i → i < length xs
+  pub found-in : key d ≡ 0 → (c i : ℕ) → find (used_place key d xs c) n ≡ Some i → i < length xs
   found-in z c i e = let u = used-found c i e in used-in z i (λ w. u.1 (sym u.0 ∙ w))
 
   module _ (i : ℕ) (x : A) where
@@ -81,24 +80,24 @@ module _ {A : Type 0} (key : A → ℕ) (d : A) (n : ℕ) (xs : List A) where
     other-stands j h = get_or-set_other xs i j x d (λ q. h (ap (λ k. key (get_or xs k d)) (sym q)))
 
     set-found : (c : ℕ) → i < n → i < length xs → key x ≡ c → (c ≡ 0 → ⊥)
-        → ((k : ℕ) → k < i → used_place key d xs c k ≡ false) → find (used_place key d (set xs i x) c) n ≡ At i
+        → ((k : ℕ) → k < i → used_place key d xs c k ≡ false) → find (used_place key d (set xs i x) c) n ≡ Some i
     set-found c l m q h f =
         find-first (used_place key d (set xs i x) c) n i l (used-of (key (get_or (set xs i x) i d)) c (ap key (get_or-set_same xs i x d m) ∙ q) h)
         (λ k o. ap (λ y. used_for (key y) c) (get_or-set_other xs i k x d (λ w. omega arith)) ∙ f k o)
 
     -- the number set is found there, over its first place, and in any where it had none
-    pub over-found : key d ≡ 0 → find (used_place key d xs (key x)) n ≡ At i → find (used_place key d (set xs i x) (key x)) n ≡ At i
+    pub over-found : key d ≡ 0 → find (used_place key d xs (key x)) n ≡ Some i → find (used_place key d (set xs i x) (key x)) n ≡ Some i
     over-found z e =
         set-found (key x) (find-lt (used_place key d xs (key x)) n i e) (found-in z (key x) i e) refl (used-found (key x) i e).1
         (λ k o. find-below (used_place key d xs (key x)) n i k e o)
 
-    pub new-found : find (used_place key d xs (key x)) n ≡ Nothing → i < n → i < length xs → (key x ≡ 0 → ⊥)
-        → find (used_place key d (set xs i x) (key x)) n ≡ At i
+    pub new-found : find (used_place key d xs (key x)) n ≡ None → i < n → i < length xs → (key x ≡ 0 → ⊥)
+        → find (used_place key d (set xs i x) (key x)) n ≡ Some i
     new-found e l m h = set-found (key x) l m refl h (λ k o. find-none (used_place key d xs (key x)) n k e (omega arith))
 
     -- a number that stood there alone is found no more
-    pub gone-found : NoTwiceOf key d n xs → key d ≡ 0 → (c : ℕ) → find (used_place key d xs c) n ≡ At i → (key x ≡ c → ⊥)
-        → find (used_place key d (set xs i x) c) n ≡ Nothing
+    pub gone-found : NoTwiceOf key d n xs → key d ≡ 0 → (c : ℕ) → find (used_place key d xs c) n ≡ Some i → (key x ≡ c → ⊥)
+        → find (used_place key d (set xs i x) c) n ≡ None
     gone-found t z c e g =
         let u = used-found c i e in
         let m = found-in z c i e in

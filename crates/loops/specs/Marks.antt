@@ -1,5 +1,5 @@
 -- Rows that the places of a sector pick, marked by 1 in a list: each place picks a row or none.
-use Rattle.std.specs.Prelude.{ℕ, zero, suc, ◌+◌, ◌<◌, Bool, true, false, ◌||◌, List, ◌≡◌, refl, eqb, length, get_or, set, replicate}
+use Rattle.std.specs.Prelude.{ℕ, zero, suc, ◌+◌, ◌<◌, Bool, true, false, ◌||◌, List, ◌≡◌, refl, eqb, length, get_or, set, replicate, Option, Some, None}
 use Rattle.std.proofs.Common.{sym, ◌∙◌, add-one, get_or-set_other}
 use Rattle.std.proofs.Math.Path.{ap}
 use native.Mathlib.Omega.{arith}
@@ -8,16 +8,14 @@ use Rattle.std.proofs.Math.Seq.{get_or-set_same}
 use borrow.Author.Tests.{eqb-true, eqb-false, eq-eqb}
 use Rattle.loops.specs.Loops.{pick, some}
 use Rattle.loops.specs.Choices.{either}
-use Rattle.loops.specs.declared.Found.{Found}
-use Rattle.loops.specs.declared.Found.TheVariants.{At, Nothing}
 
 -- row j was picked
-unfoldable pub is_at : ℕ → Found → Bool
-is_at j (At k) = eqb k j
-is_at j Nothing = false
+unfoldable pub is_at : ℕ → Option ℕ → Bool
+is_at j (Some k) = eqb k j
+is_at j None = false
 
 -- one of the first n places picks row j
-unfoldable pub picked_by : (ℕ → Found) → ℕ → ℕ → Bool
+unfoldable pub picked_by : (ℕ → Option ℕ) → ℕ → ℕ → Bool
 picked_by by n j = some (λ i. is_at j (by i)) n 0
 
 or-false : (b : Bool) → (b || false) ≡ b
@@ -41,24 +39,24 @@ some-more p (suc n) i =
     rw (some-more p n (i + 1), e) (or-assoc (p i) (some p n (i + 1)) (p (i + 1 + n)))
 
 -- of m rows, 1 marks those that the first n places pick
-unfoldable pub Marks : (ℕ → Found) → ℕ → ℕ → List ℕ → Type 0
+unfoldable pub Marks : (ℕ → Option ℕ) → ℕ → ℕ → List ℕ → Type 0
 Marks by m n rows = (k : ℕ) → k < m → get_or rows k 0 ≡ pick (picked_by by n k) 1 0
 
-pub marks-none : (by : ℕ → Found) (m : ℕ) → Marks by m 0 (replicate m 0)
+pub marks-none : (by : ℕ → Option ℕ) (m : ℕ) → Marks by m 0 (replicate m 0)
 unfolding Marks picked_by some
 marks-none by m k h = get_or-replicate m k 0 0 h
 
 -- one place more: it picks row j, or none
-module _ (by : ℕ → Found) (m n : ℕ) (rows : List ℕ) (inv : Marks by m n rows) where
+module _ (by : ℕ → Option ℕ) (m n : ℕ) (rows : List ℕ) (inv : Marks by m n rows) where
   more : (k : ℕ) → picked_by by (n + 1) k ≡ (picked_by by n k || is_at k (by n))
   unfolding picked_by
   more k = let e : 0 + n ≡ n = omega arith in rw (add-one n) (rw e at (some-more (λ i. is_at k (by i)) n 0))
 
-  pub marks-keep : by n ≡ Nothing → Marks by m (n + 1) rows
+  pub marks-keep : by n ≡ None → Marks by m (n + 1) rows
   unfolding Marks is_at
   marks-keep e k h = inv k h ∙ rw (more k, e) (ap (λ (b : Bool). pick b 1 0) (sym (or-false (picked_by by n k))))
 
-  pub marks-put : (j : ℕ) → j < length rows → by n ≡ At j → Marks by m (n + 1) (set rows j 1)
+  pub marks-put : (j : ℕ) → j < length rows → by n ≡ Some j → Marks by m (n + 1) (set rows j 1)
   unfolding Marks is_at
   marks-put j l e k h =
       either (eqb j k)
@@ -71,6 +69,6 @@ pub mark-is : (b : Bool) (n : ℕ) → n ≡ pick b 1 0 → eqb n 1 ≡ b
 mark-is true n e = rw e
 mark-is false n e = rw e
 
-pub marked : (by : ℕ → Found) (m n : ℕ) (rows : List ℕ) → Marks by m n rows → (k : ℕ) → k < m → eqb (get_or rows k 0) 1 ≡ picked_by by n k
+pub marked : (by : ℕ → Option ℕ) (m n : ℕ) (rows : List ℕ) → Marks by m n rows → (k : ℕ) → k < m → eqb (get_or rows k 0) 1 ≡ picked_by by n k
 unfolding Marks
 marked by m n rows inv k h = mark-is (picked_by by n k) (get_or rows k 0) (inv k h)

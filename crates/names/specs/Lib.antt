@@ -2,5 +2,6 @@
 pub mod Names
 pub mod Held
 pub mod NameLaws
+pub mod CopyLaws
 pub mod TextLaws
 pub mod Agree

@@ -1,50 +1,14 @@
 -- Laws of names: a turn of each loop, and bounds.
 use Prim.Native.Nat.{ℕ, zero, suc, ◌+◌, ◌-◌, ◌*◌, ◌%◌, ◌<◌, ◌≤◌}
-use Rattle.std.specs.Prelude.{true, false, ◌&&◌, ◌||◌, List, ◌∷◌, ◌++◌, ◌≡◌, refl, ltb, eqb, length, take, drop, set, replicate}
-use Rattle.std.proofs.Common.{append-nil, sym, ◌∙◌, add-one, drop_of_length-le, length-drop, drop-cons, take-suc, take_all, length-take-le, ltb-true, lt-ltb, le-ltb, eq-eqb, ne_eqb}
+use Rattle.std.specs.Prelude.{true, false, ◌&&◌, ◌||◌, List, ◌≡◌, ltb, eqb}
+use Rattle.std.proofs.Common.{sym, ◌∙◌, ltb-true, lt-ltb, le-ltb, eq-eqb, ne_eqb}
 use native.Mathlib.Omega.{arith}
-use Rattle.std.proofs.Math.ListN.{get_or}
-use Rattle.std.proofs.lemmas.List.{set_at}
-use Rattle.std.proofs.Math.Seq.{append_snoc, get_or-take, get_or-drop}
 use Rattle.loops.specs.Loops.{pick}
 use Rattle.loops.specs.Choices.{pick-by, and-0, or-r}
 use Rattle.bits.specs.Bit.{bit}
 use Rattle.slots.specs.Slots.{is_long}
 use Rattle.slots.specs.SlotLaws.{and-false}
 use Rattle.names.specs.Names.{first_host_slot, ordinal, char_place, text_len, entries_read, entries_strict}
-
--- A copy of 32 bytes over zeros. That of s over z, come to i:
-module _ (s z t : List ℕ) (i : ℕ) (inv : t ≡ take i s ++ drop i z) (same : length z ≡ length s) where
-  copy-more : i < length s → set t i (get_or s i 0) ≡ take (i + 1) s ++ drop (i + 1) z
-  copy-more h =
-      let l : drop i z ≡ get_or z i 0 ∷ drop (suc i) z = drop-cons z i 0 (omega arith) in
-      rw (inv, l, set_at (take i s) (get_or z i 0) (drop (suc i) z) (get_or s i 0) i (length-take-le i s (omega arith)), add-one i, take-suc s i 0 h)
-      (sym (append_snoc (take i s) (get_or s i 0) (drop (suc i) z)))
-
-  copy-end : length s ≤ i → t ≡ s
-  copy-end h = rw (inv, take_all i s h, drop_of_length-le z {i = i} (omega arith)) (append-nil s)
-
--- what a loop over i has made of the zeros
-unfoldable pub copied_to : List ℕ → ℕ → ℕ → List ℕ
-copied_to d at i = take i (take 32 (drop at d)) ++ drop i (replicate 32 0)
-
-pub copied-start : (d : List ℕ) (at : ℕ) → replicate 32 0 ≡ copied_to d at 0
-unfolding copied_to
-copied-start d at = refl
-
-module _ (d : List ℕ) (at i : ℕ) (t : List ℕ) (h : at + 32 ≤ length d) (inv : t ≡ copied_to d at i) where
-  part-length : length (take 32 (drop at d)) ≡ 32
-  part-length = length-take-le 32 (drop at d) (simp length-drop (omega arith))
-
-  pub copied-more : i < 32 → set t i (get_or d (at + i) 0) ≡ copied_to d at (i + 1)
-  unfolding copied_to
-  copied-more l =
-      let e : get_or (take 32 (drop at d)) i 0 ≡ get_or d (at + i) 0 = get_or-take 32 (drop at d) i 0 l ∙ get_or-drop at d i 0 in
-      rw (← e) (copy-more (take 32 (drop at d)) (replicate 32 0) t i inv (sym part-length) (omega (arith, part-length)))
-
-  pub copied-end : 32 ≤ i → t ≡ take 32 (drop at d)
-  unfolding copied_to
-  copied-end l = copy-end (take 32 (drop at d)) (replicate 32 0) t i inv (sym part-length) (omega (arith, part-length))
 
 -- a turn of the lenient reading, at an entry e
 module _ (look : ℕ → List ℕ) (seq k w : ℕ) (e : List ℕ) (here : e ≡ look (k - 1)) (inv : w ≡ entries_read look (4 - seq) seq k) (h : seq < 4) where

@@ -4,7 +4,7 @@ use Prim.Native.Char.{code}
 use mathlib.Core.List.{List, [], ◌∷◌, ◌++◌, map, map-append, append-nil, append_assoc}
 use Rattle.std.specs.Prelude.{◌≡◌, length, get_or, drop, set}
 use Rattle.std.proofs.Math.Path.{refl, sym}
-use Rattle.std.proofs.Common.{◌∙◌, ap, add-one, length-append, length-take, drop-cons, take_all, take_at, take-suc-set, length-take-le}
+use Rattle.std.proofs.Common.{◌∙◌, ap, add-one, length-append, length-take, drop-cons, drop_of_length-le, take_all, take_at, take-suc-set, length-take-le}
 use native.Mathlib.Omega.{arith}
 use Rattle.std.proofs.Math.ListN.{take}
 use Rattle.std.proofs.lemmas.List.{length-map}
@@ -71,24 +71,24 @@ unfolding text_of
 text-start e n h q = let z : text_len e ≡ n - 0 = omega arith in rw z
 
 -- the bytes of a short name's part, from i on
-module _ (d : List ℕ) (end i : ℕ) (w h : List ℕ) (inv : w ≡ take 32 (h ++ unblanked (take (end - i) (drop i d)))) where
-  part-cons : i < end → end ≤ length d → take (end - i) (drop i d) ≡ get_or d i 0 ∷ take (end - (i + 1)) (drop (i + 1) d)
-  part-cons l f = let s : end - i ≡ suc (end - (i + 1)) = omega arith in rw (s, drop-cons d i 0 (omega arith), add-one i)
+module _ (xs : List ℕ) (i : ℕ) (w h : List ℕ) (inv : w ≡ take 32 (h ++ unblanked (drop i xs))) where
+  part-cons : i < length xs → drop i xs ≡ get_or xs i 0 ∷ drop (i + 1) xs
+  part-cons l = rw (drop-cons xs i 0 l, add-one i)
 
-  pub part-blank : i < end → end ≤ length d → get_or d i 0 ≡ code " " → w ≡ take 32 (h ++ unblanked (take (end - (i + 1)) (drop (i + 1) d)))
+  pub part-blank : i < length xs → get_or xs i 0 ≡ code " " → w ≡ take 32 (h ++ unblanked (drop (i + 1) xs))
   unfolding unblanked
-  part-blank l f e = inv ∙ rw (part-cons l f, eq-eqb (get_or d i 0) (code " ") e)
+  part-blank l e = inv ∙ rw (part-cons l, eq-eqb (get_or xs i 0) (code " ") e)
 
-  pub part-more : (g : List ℕ) → i < end → end ≤ length d → (get_or d i 0 ≡ code " " → ⊥) → g ≡ take 32 (h ++ (lower_of (get_or d i 0) ∷ []))
-      → w ≡ take 32 (g ++ unblanked (take (end - (i + 1)) (drop (i + 1) d)))
+  pub part-more : (g : List ℕ) → i < length xs → (get_or xs i 0 ≡ code " " → ⊥) → g ≡ take 32 (h ++ (lower_of (get_or xs i 0) ∷ []))
+      → w ≡ take 32 (g ++ unblanked (drop (i + 1) xs))
   unfolding unblanked
-  part-more g l f e q =
-      added w h g (lower_of (get_or d i 0) ∷ []) (unblanked (take (end - (i + 1)) (drop (i + 1) d)))
-      (inv ∙ rw (part-cons l f, ne_eqb (get_or d i 0) (code " ") e)) q
+  part-more g l e q =
+      added w h g (lower_of (get_or xs i 0) ∷ []) (unblanked (drop (i + 1) xs))
+      (inv ∙ rw (part-cons l, ne_eqb (get_or xs i 0) (code " ") e)) q
 
-  pub part-end : end ≤ i → length h ≤ 32 → h ≡ w
+  pub part-end : length xs ≤ i → length h ≤ 32 → h ≡ w
   unfolding unblanked
-  part-end l s = let z : end - i ≡ 0 = omega arith in added-end w h (inv ∙ rw z) s
+  part-end l s = added-end w h (inv ∙ rw (drop_of_length-le xs {i = i} l)) s
 
 -- one entry more
 pub joined-more : (look : ℕ → List ℕ) (idx s : ℕ) (h g e : List ℕ) → h ≡ take 32 (map shown_char (joined look idx s)) → e ≡ look (idx - (s + 1))

@@ -10,11 +10,7 @@ pub fn copied(d: &[u8], at: usize) -> [u8; 32]
     ensures { result ≡ take 32 (drop at d.now) }
 {
     let mut e = [0u8; 32];
-    let mut i = 0;
-    while i < 32 {
-        e[i] = d[at + i];
-        i += 1;
-    }
+    e.copy_from_slice(&d[at..at + 32]);
     e
 }
 
@@ -24,13 +20,11 @@ pub fn entry_at(rec: [Rec; NREC], d: &[u8], base: usize, k: usize) -> [u8; 32]
     ensures { result ≡ entry_of rec d.now base k }
 {
     if k < base {
-        let r = records::root_rec(rec, k);
-        return r.e;
+        return records::root_rec(rec, k).unwrap_or([0u8; 32]);
     }
     let i = k - base;
     if 16 <= i {
-        let r = records::root_rec(rec, k);
-        return r.e;
+        return records::root_rec(rec, k).unwrap_or([0u8; 32]);
     }
     copied(d, i * 32)
 }
@@ -70,12 +64,10 @@ pub fn text_len(e: &[u8]) -> usize
     requires { 32 ≤ length e.now }
     ensures { result ≡ text_len e.now }
 {
-    let mut i = 0;
-    while i < 13 {
+    for i in 0..13 {
         if ends_name(char_at(e, i)) {
             return i;
         }
-        i += 1;
     }
     13
 }
@@ -85,9 +77,8 @@ pub fn entries_read(rec: [Rec; NREC], d: &[u8], base: usize, idx: usize) -> usiz
     requires { length d.now ≡ 512 }
     ensures { result ≡ entries_read (entry_of rec d.now base) 3 1 idx }
 {
-    let mut seq = 1;
     let mut k = idx;
-    while seq < 4 {
+    for seq in 1..4 {
         if k <= 7 {
             return seq - 1;
         }
@@ -104,7 +95,6 @@ pub fn entries_read(rec: [Rec; NREC], d: &[u8], base: usize, idx: usize) -> usiz
         if bits::test_u16(e[0] as u16, 6) {
             return seq;
         }
-        seq += 1;
         k -= 1;
     }
     3
@@ -115,9 +105,8 @@ pub fn entries_strict(rec: [Rec; NREC], d: &[u8], base: usize, idx: usize) -> us
     requires { length d.now ≡ 512 }
     ensures { result ≡ entries_strict (entry_of rec d.now base) 20 1 idx }
 {
-    let mut seq = 1;
     let mut k = idx;
-    while seq < 21 {
+    for seq in 1..21 {
         if k <= 7 {
             return 0;
         }
@@ -135,7 +124,6 @@ pub fn entries_strict(rec: [Rec; NREC], d: &[u8], base: usize, idx: usize) -> us
         if text_len(&e) != 13 {
             return 0;
         }
-        seq += 1;
         k -= 1;
     }
     0

@@ -40,15 +40,13 @@ fn with_text(name: Name, e: &[u8]) -> Name
 {
     let n = text_len(e);
     let mut out = name;
-    let mut i = 0;
-    while i < n {
+    for i in 0..n {
         let k = out.len;
         if 32 <= k {
             return out;
         }
         out.chars[k] = shown_char(char_at(e, i));
         out.len = k + 1;
-        i += 1;
     }
     out
 }
@@ -59,10 +57,8 @@ pub fn long_text(rec: [Rec; NREC], d: &[u8], base: usize, idx: usize, m: usize) 
     ensures { (result.len ≤ 32) × (held result ≡ take 32 (map shown_char (joined (entry_of rec d.now base) idx m))) }
 {
     let mut out = empty();
-    let mut s = 0;
-    while s < m {
-        s += 1;
-        let e = entry_at(rec, d, base, idx - s);
+    for s in 0..m {
+        let e = entry_at(rec, d, base, idx - (s + 1));
         out = with_text(out, &e);
     }
     out
@@ -75,19 +71,15 @@ fn put_part(chars: &mut [u8], n: usize, d: &[u8], at: usize, end: usize) -> usiz
     ensures text { take result chars.new ≡ take 32 (take n chars.old ++ unblanked (take (end - at) (drop at d.now))) }
 {
     let mut m = n;
-    let mut i = at;
-    while i < end {
-        let c = d[i];
+    for &c in &d[at..end] {
         if c == b' ' {
-            i += 1;
-        } else {
-            if 32 <= m {
-                return m;
-            }
-            chars[m] = slots::fields::lower(c);
-            m += 1;
-            i += 1;
+            continue;
         }
+        if 32 <= m {
+            return m;
+        }
+        chars[m] = slots::fields::lower(c);
+        m += 1;
     }
     m
 }

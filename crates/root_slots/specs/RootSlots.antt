@@ -6,7 +6,6 @@ use Rattle.slots.specs.Slots.{first_byte, attr_of, is_long, high_of, size_of, up
 use Rattle.names.specs.Names.{first_host_slot, long_name, strict_name}
 use Rattle.housekeeping.specs.Housekeeping.{is_housekeeping}
 use Rattle.records.specs.declared.Rec.{Rec}
-use Rattle.root_slots.specs.declared.Strict.{Strict}
 
 -- an update file has at most 638,988 bytes
 abbrev pub max_update : ℕ
@@ -22,6 +21,11 @@ slot_admitted recs d base idx host =
     (pick (bit (attr_of d ((idx - base) * 32)) 3 || not (eqb (high_of d ((idx - base) * 32)) 0) || not host) false
     (is_housekeeping (long_name recs d base idx)
     || (not (bit (attr_of d ((idx - base) * 32)) 4) && update_name d ((idx - base) * 32) && leb (size_of d ((idx - base) * 32)) max_update))))
+
+-- the refusal number, 0 where there is none, and whether the name is housekeeping
+pub record Strict : Type 0 where
+  pub no : ℕ
+  pub housekeeping : Bool
 
 -- the refusal number, 0 where there is none, beside what was asked
 abbrev pub strict_answer : ℕ → Bool → Strict

@@ -2,29 +2,23 @@
 
 #![tactic(auto)]
 
-ghost use Rattle.std.specs.Prelude.{◌≡◌, ℕ, ◌+◌, ◌<◌, ◌≤◌, not, ◌&&◌, leb, length};
+ghost use Rattle.std.specs.Prelude.{◌≡◌, ℕ, ◌+◌, ◌<◌, ◌≤◌, false, not, ◌&&◌, leb, length};
 ghost use Rattle.bits.specs.Bit.{bit};
 ghost use Rattle.slots.specs.Slots.{attr_of, size_of, update_name};
 ghost use Rattle.housekeeping.specs.Housekeeping.{is_housekeeping};
 ghost use Rattle.names.specs.Names.{long_name};
 ghost use Rattle.names.specs.Held.{held};
+ghost use Rattle.refusals.specs.Refusals.{told, value_or};
 ghost use Rattle.root_slots.specs.RootSlots.{max_update, slot_admitted, strict_of};
 
 use housekeeping::housekeeping;
 use names::entries::{entries_read, entries_strict};
 use names::text::{Name, name_by};
 use records::{NREC, Rec};
+use refusals::Refusal;
 
 // Bytes of an update file at most.
 pub const MAX_UPDATE: u32 = 638988;
-
-// The refusal number of the strict name, 0 where there is none, and whether the name is housekeeping.
-#[repr(C)]
-#[derive(Clone, Copy)]
-pub struct Strict {
-    pub no: u8,
-    pub housekeeping: bool,
-}
 
 fn is_housekeeping(name: Name) -> bool
     requires { name.len ≤ 32 }
@@ -90,31 +84,20 @@ pub fn rec_ok(rec: [Rec; NREC], d: &[u8], base: usize, idx: usize, host: bool) -
 }
 
 // The strict long name of root slot `idx`, given its sector: is it housekeeping.
-pub fn strict_name(rec: [Rec; NREC], d: &[u8], idx: usize) -> Strict
-    ensures { result ≡ strict_of rec d.now idx }
+pub fn strict_name(rec: [Rec; NREC], d: &[u8], idx: usize) -> Result<bool, Refusal>
+    ensures number { told result ≡ (strict_of rec d.now idx).no }
+    ensures housekeeping { value_or false result ≡ (strict_of rec d.now idx).housekeeping }
 {
     if d.len() != 512 {
-        return Strict {
-            no: 1,
-            housekeeping: false,
-        };
+        return Err(Refusal::SectorLength);
     }
     if 512 <= idx {
-        return Strict {
-            no: 2,
-            housekeeping: false,
-        };
+        return Err(Refusal::PastTheEnd);
     }
     if idx < 7 {
-        return Strict {
-            no: 7,
-            housekeeping: false,
-        };
+        return Err(Refusal::OwnRootSlot);
     }
     let base = idx / 16 * 16;
     let name = name_by(rec, d, base, idx, entries_strict(rec, d, base, idx));
-    Strict {
-        no: 0,
-        housekeeping: is_housekeeping(name),
-    }
+    Ok(is_housekeeping(name))
 }

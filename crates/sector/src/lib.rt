@@ -29,10 +29,8 @@ pub fn equal(a: &[u8], b: &[u8]) -> bool
     ensures { result ≡ same a.now b.now }
 {
     let mut differing = 0u8;
-    let mut i = 0;
-    while i < a.len() {
-        differing = differing | (a[i] ^ b[i]);
-        i += 1;
+    for (x, y) in a.iter().zip(b) {
+        differing |= x ^ y;
     }
     differing == 0
 }
@@ -42,10 +40,8 @@ pub fn is_zero(a: &[u8]) -> bool
     ensures { result ≡ zeros a.now }
 {
     let mut seen = 0u8;
-    let mut i = 0;
-    while i < a.len() {
-        seen = seen | a[i];
-        i += 1;
+    for x in a {
+        seen |= x;
     }
     seen == 0
 }
@@ -55,20 +51,12 @@ pub fn copy(to: &mut [u8], from: &[u8])
     requires { length to.old ≡ length from.now }
     ensures { to.new ≡ from.now }
 {
-    let mut i = 0;
-    while i < from.len() {
-        to[i] = from[i];
-        i += 1;
-    }
+    to.copy_from_slice(from);
 }
 
 // Every byte of `to` set to `v`.
 pub fn fill(to: &mut [u8], v: u8)
     ensures { to.new ≡ replicate (length to.old) v }
 {
-    let mut i = 0;
-    while i < to.len() {
-        to[i] = v;
-        i += 1;
-    }
+    to.fill(v);
 }

@@ -2,3 +2,4 @@
 pub mod Text
 pub mod Slots
 pub mod SlotLaws
+pub mod RangeLaws

@@ -24,14 +24,7 @@ pub fn same_slot(a: &[u8], b: &[u8], at: usize) -> bool
     requires { (at + 32 ≤ length a.now) × (at + 32 ≤ length b.now) }
     ensures { result ≡ same_slot a.now b.now at }
 {
-    let mut differing = 0u8;
-    let mut i = 0;
-    while i < 32 {
-        let k = at + i;
-        differing = differing | (a[k] ^ b[k]);
-        i += 1;
-    }
-    differing == 0
+    sector::equal(&a[at..at + 32], &b[at..at + 32])
 }
 
 // Is byte `i` of the slots at `at` the same, or a date's.
@@ -51,14 +44,7 @@ fn dates_from(a: &[u8], b: &[u8], at: usize, from: usize) -> bool
     requires { (at + 32 ≤ length a.now) × (at + 32 ≤ length b.now) × (from ≤ 32) }
     ensures { result ≡ all (date_at a.now b.now at) (32 - from) from }
 {
-    let mut i = from;
-    while i < 32 {
-        if !date_at(a, b, at, i) {
-            return false;
-        }
-        i += 1;
-    }
-    true
+    (from..32).all(|i| date_at(a, b, at, i))
 }
 
 // Do the slots at `at` differ in dates at most.

@@ -43,12 +43,5 @@ pub fn refers(d: &[u8], file_start: u16, file_size: u32) -> bool
     requires { 512 ≤ length d.now }
     ensures { result ≡ refers_to d.now file_start file_size }
 {
-    let mut i = 0;
-    while i < 16 {
-        if names_file(d, file_start, file_size, i * 32) {
-            return true;
-        }
-        i += 1;
-    }
-    false
+    (0..16).any(|i| names_file(d, file_start, file_size, i * 32))
 }

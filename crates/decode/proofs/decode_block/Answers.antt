@@ -9,8 +9,14 @@ returns-then-p-le-ADD c = let e = le-leb _ _ c.if-p-le-ADD.true in record { answ
 
 pub returns-then-p-kp : goal.returns-then-p-kp
 unfolding decodes decoded
-returns-then-p-kp c = let e = lt-leb _ _ c.if-p-le-ADD.false in record { answer = simp (e, ← c.key_at-kp.ensures, le-ltb _ _ c.if-p-kp.true); bytes = simp (e, ← c.key_at-kp.ensures, le-ltb _ _ c.if-p-kp.true) }
+returns-then-p-kp c =
+    let e = lt-leb _ _ c.if-p-le-ADD.false in
+    let f = le-ltb _ _ c.if-p-kp.true in
+    record { answer = simp (e, ← c.key_at-kp.ensures, f); bytes = simp (e, ← c.key_at-kp.ensures, f) }
 
 pub returns : goal.returns
 unfolding decodes decoded
-returns c = let e = lt-leb _ _ c.if-p-le-ADD.false in record { answer = simp (e, ← c.key_at-kp.ensures, lt-ltb _ _ c.if-p-kp.false); bytes = simp (e, ← c.key_at-kp.ensures, lt-ltb _ _ c.if-p-kp.false) c.decode_bytes.ensures }
+returns c =
+    let e = lt-leb _ _ c.if-p-le-ADD.false in
+    let f = lt-ltb _ _ c.if-p-kp.false in
+    record { answer = simp (e, ← c.key_at-kp.ensures, f); bytes = simp (e, ← c.key_at-kp.ensures, f) c.decode_bytes.ensures }

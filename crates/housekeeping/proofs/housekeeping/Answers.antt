@@ -6,7 +6,7 @@ use native.Mathlib.Omega.{arith}
 use Rattle.housekeeping.proofs.housekeeping.Goals as goal
 
 pub loop-i-init : goal.loop-i-init
-loop-i-init c = (omega arith, housekeeping-some _ ∙ some-start _ _)
+loop-i-init c = housekeeping-some _ ∙ some-start _ _
 
 pub is_prefix-requires : goal.is_prefix-requires
 unfolding starts prefix_bytes
@@ -14,14 +14,11 @@ is_prefix-requires c = record { row = refl; part = start-in c.loop-i.i (omega ar
 
 pub returns-then-is_prefix : goal.returns-then-is_prefix
 unfolding starts
-returns-then-is_prefix c = some-stop _ _ _ _ c.loop-i.invariant.1 (omega arith) (sym c.is_prefix.ensures ∙ c.if-is_prefix.true)
+returns-then-is_prefix c = some-stop _ _ _ _ c.loop-i.invariant (omega arith) (sym c.is_prefix.ensures ∙ c.if-is_prefix.true)
 
 pub loop-i-preserved : goal.loop-i-preserved
 unfolding starts
-loop-i-preserved c = (
-  omega arith,
-  some-go _ _ _ _ c.loop-i.invariant.1 (omega arith) (sym c.is_prefix.ensures ∙ c.if-is_prefix.false),
-)
+loop-i-preserved c = some-go _ _ _ _ c.loop-i.invariant (omega arith) (sym c.is_prefix.ensures ∙ c.if-is_prefix.false)
 
 pub returns : goal.returns
-returns c = some-end _ _ _ _ c.loop-i.invariant.1 (omega arith)
+returns c = some-end _ _ _ _ c.loop-i.invariant (omega arith)

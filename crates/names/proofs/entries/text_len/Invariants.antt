@@ -1,4 +1,4 @@
-use Prim.Native.Nat.{ℕ, ◌≤◌, ◌-◌}
+use Prim.Native.Nat.{ℕ, ◌-◌}
 use mathlib.Core.Bool.{Bool}
 use mathlib.Core.Path.{◌≡◌}
 use Rattle.loops.specs.Loops.{first}
@@ -6,7 +6,4 @@ use Rattle.names.specs.Names.{char_of, ends}
 use Rattle.names.proofs.entries.text_len.Given as goal
 
 abbrev pub invariant-loop-i : goal.invariant-loop-i
-invariant-loop-i l = let p : ℕ → Bool = λ j. ends (char_of l.e j) in (l.i ≤ 13) × (first p 13 0 ≡ first p (13 - l.i) l.i)
-
-abbrev pub decreases-loop-i : goal.decreases-loop-i
-decreases-loop-i l = 13 - l.i
+invariant-loop-i l = let p : ℕ → Bool = λ j. ends (char_of l.e j) in first p 13 0 ≡ first p (13 - l.i) l.i

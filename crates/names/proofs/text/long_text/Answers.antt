@@ -6,10 +6,10 @@ use Rattle.names.proofs.text.long_text.Goals as goal
 
 pub loop-s-init : goal.loop-s-init
 unfolding joined
-loop-s-init c = (omega arith, omega arith, c.empty-out.ensures.1)
+loop-s-init c = (omega arith, c.empty-out.ensures.1)
 
 pub loop-s-preserved : goal.loop-s-preserved
-loop-s-preserved c = (omega arith, c.with_text-out.ensures.0, joined-more _ _ _ _ _ _ c.loop-s.invariant.2 c.entry_at-e.ensures c.with_text-out.ensures.1)
+loop-s-preserved c = (c.with_text-out.ensures.0, joined-more _ _ _ _ _ _ c.loop-s.invariant.1 c.entry_at-e.ensures c.with_text-out.ensures.1)
 
 pub returns : goal.returns
-returns c = let e : c.loop-s.s ≡ c.args.m = omega arith in (c.loop-s.invariant.1, rw e at c.loop-s.invariant.2)
+returns c = let e : c.loop-s.s ≡ c.args.m = omega arith in (c.loop-s.invariant.0, rw e at c.loop-s.invariant.1)

@@ -1,4 +1,4 @@
-use Prim.Native.Nat.{◌≤◌, ◌-◌}
+use Prim.Native.Nat.{◌≤◌}
 use lib.ListN.{take}
 use mathlib.Core.List.{map}
 use mathlib.Core.Path.{◌≡◌}
@@ -7,7 +7,4 @@ use Rattle.names.specs.Held.{held}
 use Rattle.names.proofs.text.long_text.Given as goal
 
 abbrev pub invariant-loop-s : goal.invariant-loop-s
-invariant-loop-s l = (l.s ≤ l.m) × (l.out.len ≤ 32) × (held l.out ≡ take 32 (map shown_char (joined (entry_of l.rec l.d l.base) l.idx l.s)))
-
-abbrev pub decreases-loop-s : goal.decreases-loop-s
-decreases-loop-s l = l.m - l.s
+invariant-loop-s l = (l.out.len ≤ 32) × (held l.out ≡ take 32 (map shown_char (joined (entry_of l.rec l.d l.base) l.idx l.s)))

@@ -11,4 +11,8 @@ returns-then-d-dot-eq32 c = let p = c.put_part-n.ensures in (p.room.0, short-pla
 
 pub returns : goal.returns
 unfolding held
-returns c = let p = c.put_part-n.ensures in (c.put_part-m.ensures.room.0, short-dotted _ _ (take c.put_part-n.result c.put_part-n.new.chars) p.text _ _ c.if-d-dot-eq32.false (push-room _ _ p.room.2 p.room.0 _ _ refl (omega arith)) c.put_part-m.ensures.text)
+returns c =
+    let n = c.put_part-n in
+    let p = n.ensures in
+    let dot = push-room n.new.chars n.result p.room.2 p.room.0 _ _ refl (omega arith) in
+    (c.put_part-m.ensures.room.0, short-dotted _ _ (take n.result n.new.chars) p.text _ _ c.if-d-dot-eq32.false dot c.put_part-m.ensures.text)

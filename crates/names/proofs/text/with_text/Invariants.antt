@@ -8,7 +8,6 @@ use Rattle.names.specs.Held.{held}
 use Rattle.names.proofs.text.with_text.Given as goal
 
 abbrev pub invariant-loop-i : goal.invariant-loop-i
-invariant-loop-i l = (l.i ≤ l.n) × (l.out.len ≤ 32) × (length l.out.chars ≡ 32) × (take 32 (held l.initial.out ++ map shown_char (text_of l.e)) ≡ take 32 (held l.out ++ map shown_char (listed (char_of l.e) (l.n - l.i) l.i)))
-
-abbrev pub decreases-loop-i : goal.decreases-loop-i
-decreases-loop-i l = l.n - l.i
+invariant-loop-i l =
+    (l.out.len ≤ 32) × (length l.out.chars ≡ 32)
+    × (take 32 (held l.initial.out ++ map shown_char (text_of l.e)) ≡ take 32 (held l.out ++ map shown_char (listed (char_of l.e) (l.n - l.i) l.i)))

@@ -1,20 +1,14 @@
-use mathlib.Core.Path.{refl, sym, ◌∙◌}
-use Rattle.loops.specs.Loops.{all-go, all-stop, all-end}
-use native.Mathlib.Omega.{arith}
+use Prim.Native.Nat.{◌-◌}
+use borrow.Author.Rules.{rules}
+use mathlib.Core.Path.{refl, ◌∙◌}
+use Rattle.std.proofs.lemmas.Iterator.{YieldsList-from_range}
+use Rattle.std.proofs.lemmas.Iterator.Search.{all_from_yields_List}
+use Rattle.slots.specs.RangeLaws.{all-range}
+use Rattle.slots.specs.Slots.{date_at}
 use Rattle.slots.proofs.dates.dates_from.Goals as goal
 
-pub loop-i-init : goal.loop-i-init
-loop-i-init c = (omega arith, refl)
-
-pub date_at-requires : goal.date_at-requires
-date_at-requires c = (omega arith, omega arith)
-
-pub returns-then-not-date_at : goal.returns-then-not-date_at
-returns-then-not-date_at c = all-stop _ _ _ _ c.loop-i.invariant.1 (omega arith) (sym c.date_at.ensures ∙ c.if-not-date_at.true)
-
-pub loop-i-preserved : goal.loop-i-preserved
-loop-i-preserved c = let l = c.loop-i in
-    (omega arith, all-go _ _ _ _ l.invariant.1 (omega arith) (sym c.date_at.ensures ∙ c.if-not-date_at.false))
-
 pub returns : goal.returns
-returns c = all-end _ _ _ _ c.loop-i.invariant.1 (omega arith)
+returns c =
+    all_from_yields_List (date_at c.args.a.now c.args.b.now c.args.at) _ _ _ c.all.ensures.ran
+    (YieldsList-from_range c.args.from 32 (32 - c.args.from) refl refl) (λ x b q k. search rules)
+    ∙ all-range _ _ _
