@@ -10,7 +10,6 @@ use Rattle.chains.specs.Chains.{complete_of}
 use Rattle.chains.specs.declared.Chain.{Chain}
 use Rattle.decode.specs.Decode.{decodes, decoded}
 use Rattle.crc.specs.Crc.{crc_of}
-use Rattle.body.specs.declared.BodyCheck.{BodyCheck}
 
 -- m lists end to end
 unfoldable pub joined : (ℕ → List ℕ) → ℕ → List ℕ
@@ -51,6 +50,11 @@ body_fits size bytes =
     all_decode size bytes
     && eqb (word32 (decoded_file size bytes) 4) (size - 12)
     && eqb (crc_of 0xFFFF (covered (decoded_file size bytes))) (word32 (decoded_file size bytes) 8 % 65536)
+
+-- the refusal number, 0 where there is none, beside whether the body is valid
+pub record BodyCheck : Type 0 where
+  pub no : ℕ
+  pub valid : Bool
 
 -- 11 for a size under 128, tried before 20, chain not complete; else whether the body is as it must be
 unfoldable pub body_of : List ℕ → List ℕ → List Pair → List St → ℕ → ℕ → BodyCheck

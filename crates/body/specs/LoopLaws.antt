@@ -12,8 +12,8 @@ use Rattle.state.specs.State.{max_slots}
 use Rattle.state.specs.declared.w.Pair.{Pair}
 use Rattle.state.specs.declared.w.St.{St}
 use Rattle.chains.specs.Chains.{complete_of}
-use Rattle.chains.specs.ChainLaws.{chain-n, chain-le, slot-lt}
 use Rattle.chains.specs.declared.Chain.{Chain}
+use Rattle.chains.specs.ChainLaws.{chain-n, chain-le, slot-lt}
 use Rattle.decode.specs.Decode.{decodes, decoded}
 use Rattle.decode.specs.DecodeLaws.{decoded-length}
 use Rattle.body.specs.Body.{joined, chain_sector, file_bytes, blocks_of, block_in, all_decode, decoded_file, body_fits}

@@ -2,8 +2,9 @@
 
 #![tactic(auto)]
 
-ghost use Rattle.std.specs.Prelude.{◌≡◌, ◌-◌, ◌*◌, ◌/◌, ◌%◌, ◌≤◌, min, eqb, length};
+ghost use Rattle.std.specs.Prelude.{◌≡◌, ◌-◌, ◌*◌, ◌/◌, ◌%◌, ◌≤◌, false, min, eqb, length};
 ghost use Rattle.loops.specs.Loops.{pick};
+ghost use Rattle.refusals.specs.Refusals.{told, value_or};
 ghost use Rattle.medium.specs.Reads.{sector_of};
 ghost use Rattle.crc.specs.Crc.{crc_of};
 ghost use Rattle.body.specs.Body.{body_fits, body_of, file_bytes};
@@ -14,17 +15,10 @@ use chains::{Chain, complete};
 use crc::crc16_upd;
 use decode::decode_block;
 use medium::reads::read_sector;
+use refusals::Refusal;
 use sector::le32;
 use state::w::{NPAIR, NST, Pair, St};
 use vdisk::drive::SPC;
-
-// The refusal number, 0 where there is none, and whether the body is valid.
-#[repr(C)]
-#[derive(Clone, Copy)]
-pub struct BodyCheck {
-    pub no: u8,
-    pub valid: bool,
-}
 
 // What the file's bytes so far give: the header's words at 4 and at 8, and the CRC.
 #[derive(Clone, Copy)]
@@ -112,8 +106,7 @@ fn check(fat: &[u16], area: &[u8], st: [St; NST], chain: Chain, size: u32) -> bo
         word2: 0,
         crc: 0xFFFF,
     };
-    let mut q = 0;
-    while q < blocks {
+    for q in 0..blocks {
         let i = chain.slots[(q / 4 / SPC) as usize] as usize;
         let x = st[i];
         read_first(fat, area, x, q, &mut sec);
@@ -123,7 +116,6 @@ fn check(fat: &[u16], area: &[u8], st: [St; NST], chain: Chain, size: u32) -> bo
             return false;
         }
         sum = summed_up(sum, &sec[from..end], q * 128);
-        q += 1;
     }
     if sum.word1 != size - HEAD {
         return false;
@@ -131,7 +123,7 @@ fn check(fat: &[u16], area: &[u8], st: [St; NST], chain: Chain, size: u32) -> bo
     sum.crc as u32 == sum.word2 % 65536
 }
 
-// The body of the file with that start and size.
+// Is the body of the file with that start and size valid.
 pub fn body(
     fat: &[u16],
     area: &[u8],
@@ -139,25 +131,16 @@ pub fn body(
     st: [St; NST],
     start: u32,
     size: u32,
-) -> BodyCheck
-    ensures { result ≡ body_of fat.now area.now pair st start size }
+) -> Result<bool, Refusal>
+    ensures number { told result ≡ (body_of fat.now area.now pair st start size).no }
+    ensures valid { value_or false result ≡ (body_of fat.now area.now pair st start size).valid }
 {
     if size < 128 {
-        return BodyCheck {
-            no: 11,
-            valid: false,
-        };
+        return Err(Refusal::BodySize);
     }
     let chain = complete(pair, st, start, size);
     if !chain.found {
-        return BodyCheck {
-            no: 20,
-            valid: false,
-        };
+        return Err(Refusal::NoChain);
     }
-    let valid = check(fat, area, st, chain, size);
-    BodyCheck {
-        no: 0,
-        valid: valid,
-    }
+    Ok(check(fat, area, st, chain, size))
 }

@@ -1,5 +1,5 @@
 -- What a complete chain has: its number of clusters, and a staging slot for each, no two alike.
-use Rattle.std.specs.Prelude.{ℕ, ◌<◌, ◌≤◌, Bool, true, false, ◌&&◌, List, ◌≡◌, eqb, leb, ltb, get_or}
+use Rattle.std.specs.Prelude.{ℕ, ◌<◌, ◌≤◌, Bool, true, false, ◌&&◌, List, ◌≡◌, eqb, leb, ltb, get_or, Option, Some, None}
 use Rattle.std.proofs.Math.Bool.{not}
 use Rattle.std.proofs.Common.{true≢false, sym, ◌∙◌}
 use Rattle.std.proofs.Math.Path.{refl}
@@ -8,8 +8,6 @@ use borrow.Author.Tests.{eqb-false, eq-eqb, leb-true, ltb-true, ltb-false, not-t
 use Rattle.loops.specs.Loops.{pick, all}
 use Rattle.loops.specs.Choices.{either, and-0, and-1}
 use Rattle.loops.specs.Facts.{all-at, some-at}
-use Rattle.loops.specs.declared.Found.{Found}
-use Rattle.loops.specs.declared.Found.TheVariants.{At, Nothing}
 use Rattle.vdisk.specs.Drive.{clusters_of}
 use Rattle.state.specs.State.{max_slots, no_st}
 use Rattle.state.specs.Pairs.{pair_of}
@@ -22,10 +20,10 @@ use Rattle.chains.specs.Walk.{link_at, place_at, held_at, repeated_at, full_at, 
 use Rattle.chains.specs.WalkLaws.{slots_to, slots-read}
 use Rattle.chains.specs.declared.Chain.{Chain}
 
-at-place : (f : Found) → is_at f ≡ true → f ≡ At (place_of f)
+at-place : (f : Option ℕ) → is_at f ≡ true → f ≡ Some (place_of f)
 unfolding is_at place_of
-at-place (At i) e = refl
-at-place Nothing e = absurd (true≢false (sym e))
+at-place (Some i) e = refl
+at-place None e = absurd (true≢false (sym e))
 
 found-pick : (b : Bool) (x : Chain) → x.found ≡ true → (pick b x no_chain).found ≡ b
 found-pick true x e = e
@@ -81,7 +79,7 @@ module _ (ps : List Pair) (st : List St) (start size : ℕ) (e : (complete_of ps
     own = and-0 _ (full_at ps st start size k) fits-here
 
     -- the cluster's slot, in which every needed sector is staged
-    pub slot-found : slot_of st (cluster_at ps start size k) ≡ At (get_or (complete_of ps st start size).slots k 0)
+    pub slot-found : slot_of st (cluster_at ps start size k) ≡ Some (get_or (complete_of ps st start size).slots k 0)
     slot-found =
         let c = link_at ps start k in
         rw (linked-at ps start (clusters_of size) k below, slot-place)

@@ -1,8 +1,6 @@
 -- Chains of the host's files (document 01, "Corners of vwrite.rs": `complete`).
-use Rattle.std.specs.Prelude.{ℕ, zero, suc, ◌+◌, ◌-◌, ◌*◌, Bool, true, false, not, ◌&&◌, ◌||◌, List, [], ◌∷◌, ◌++◌, map, leb, ltb, eqb, get_or, replicate}
+use Rattle.std.specs.Prelude.{ℕ, zero, suc, ◌+◌, ◌-◌, ◌*◌, Bool, true, false, not, ◌&&◌, ◌||◌, List, [], ◌∷◌, ◌++◌, map, leb, ltb, eqb, get_or, replicate, Option, Some, None}
 use Rattle.loops.specs.Loops.{pick, all, some}
-use Rattle.loops.specs.declared.Found.{Found}
-use Rattle.loops.specs.declared.Found.TheVariants.{At, Nothing}
 use Rattle.bits.specs.Bit.{bit}
 use Rattle.vdisk.specs.Drive.{clusters_of}
 use Rattle.state.specs.State.{max_slots, no_st}
@@ -10,27 +8,25 @@ use Rattle.state.specs.Pairs.{pair_of}
 use Rattle.state.specs.Staged.{slot_of}
 use Rattle.state.specs.declared.w.Pair.{Pair}
 use Rattle.state.specs.declared.w.St.{St}
-use Rattle.state.specs.declared.pairs.PairOf.{PairOf}
-use Rattle.state.specs.declared.pairs.PairOf.TheVariants.{Value, NoPair}
 use Rattle.chains.specs.declared.Chain.{Chain}
 
 -- the value of a pair, 0 where there is none
-unfoldable pub value_of : PairOf → ℕ
-value_of (Value v) = v
-value_of NoPair = 0
+unfoldable pub value_of : Option ℕ → ℕ
+value_of (Some v) = v
+value_of None = 0
 
-unfoldable pub is_value : PairOf → Bool
-is_value (Value v) = true
-is_value NoPair = false
+unfoldable pub is_value : Option ℕ → Bool
+is_value (Some v) = true
+is_value None = false
 
-unfoldable pub is_at : Found → Bool
-is_at (At i) = true
-is_at Nothing = false
+unfoldable pub is_at : Option ℕ → Bool
+is_at (Some i) = true
+is_at None = false
 
 -- the place of a slot that was found
-unfoldable pub place_of : Found → ℕ
-place_of (At i) = i
-place_of Nothing = 0
+unfoldable pub place_of : Option ℕ → ℕ
+place_of (Some i) = i
+place_of None = 0
 
 -- the clusters linked by pairs, n of them from c on
 unfoldable pub linked : List Pair → ℕ → ℕ → List ℕ

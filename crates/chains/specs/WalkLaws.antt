@@ -1,5 +1,5 @@
 -- What `complete` answers after k clusters of a chain: each way out, and one cluster more.
-use Rattle.std.specs.Prelude.{ℕ, zero, suc, ◌+◌, ◌-◌, ◌<◌, ◌≤◌, ◌&&◌, List, [], ◌∷◌, ◌++◌, ◌≡◌, get_or, set, replicate}
+use Rattle.std.specs.Prelude.{ℕ, zero, suc, ◌+◌, ◌-◌, ◌<◌, ◌≤◌, ◌&&◌, List, [], ◌∷◌, ◌++◌, ◌≡◌, get_or, set, replicate, Some, None}
 use Rattle.std.proofs.Math.Bool.{true, false, not}
 use Rattle.std.proofs.Math.Path.{refl, sym}
 use Rattle.std.proofs.Common.{◌∙◌, ap, arith, add-one}
@@ -11,14 +11,12 @@ use borrow.Author.Tests.{eq-eqb, ne_eqb, le-leb, lt-leb}
 use Rattle.loops.specs.Loops.{all, some, listed, all-stop}
 use Rattle.loops.specs.Choices.{and-no}
 use Rattle.loops.specs.Facts.{listed-length, listed-at}
-use Rattle.loops.specs.declared.Found.TheVariants.{At, Nothing}
 use Rattle.vdisk.specs.Drive.{clusters_of}
 use Rattle.state.specs.State.{max_slots, no_st}
 use Rattle.state.specs.Pairs.{pair_of}
 use Rattle.state.specs.Staged.{slot_of}
 use Rattle.state.specs.declared.w.Pair.{Pair}
 use Rattle.state.specs.declared.w.St.{St}
-use Rattle.state.specs.declared.pairs.PairOf.TheVariants.{Value, NoPair}
 use Rattle.chains.specs.Chains.{value_of, is_value, is_at, place_of, staged_at, is_complete, no_chain, complete_of}
 use Rattle.chains.specs.Walk.{link_at, place_at, held_at, repeated_at, full_at, fits, link-next, linked-map, some-same, complete-is}
 use Rattle.chains.specs.declared.Chain.{Chain}
@@ -60,20 +58,20 @@ module _ (ps : List Pair) (st : List St) (start : ℕ) where
 
 -- the k-th cluster, c: its link, its slot, and whether it fits
 module _ (ps : List Pair) (start k c : ℕ) (q : c ≡ link_at ps start k) where
-  pub link-by : (v : ℕ) → pair_of ps c ≡ Value v → v ≡ link_at ps start (k + 1)
+  pub link-by : (v : ℕ) → pair_of ps c ≡ Some v → v ≡ link_at ps start (k + 1)
   unfolding value_of
   link-by v e = sym (link-next ps start k ∙ rw (← q, e))
 
-  pub place-by : (st : List St) (i : ℕ) → slot_of st c ≡ At i → place_at ps st start k ≡ i
+  pub place-by : (st : List St) (i : ℕ) → slot_of st c ≡ Some i → place_at ps st start k ≡ i
   unfolding place_of
   place-by st i e = rw (← q, e)
 
 module _ (ps : List Pair) (st : List St) (start size k c : ℕ) (q : c ≡ link_at ps start k) where
-  pub no-pair : pair_of ps c ≡ NoPair → fits ps st start size k ≡ false
+  pub no-pair : pair_of ps c ≡ None → fits ps st start size k ≡ false
   unfolding fits is_value
   no-pair e = rw (← q, e)
 
-  pub no-slot : slot_of st c ≡ Nothing → fits ps st start size k ≡ false
+  pub no-slot : slot_of st c ≡ None → fits ps st start size k ≡ false
   unfolding fits is_at
   no-slot e = rw (← q, e, and-no (is_value (pair_of ps c)) false refl)
 
@@ -81,11 +79,11 @@ module _ (ps : List Pair) (st : List St) (start size k c : ℕ) (q : c ≡ link_
   unfolding fits
   is-repeated e = rw (e, and-no (held_at ps st start k) false refl)
 
-  pub not-staged : (i : ℕ) → slot_of st c ≡ At i → staged_at (get_or st i no_st) size k ≡ false → fits ps st start size k ≡ false
+  pub not-staged : (i : ℕ) → slot_of st c ≡ Some i → staged_at (get_or st i no_st) size k ≡ false → fits ps st start size k ≡ false
   unfolding fits
   not-staged i e f = and-no (held_at ps st start k && not (repeated_at ps st start k)) (full_at ps st start size k) (rw (place-by ps start k c q st i e) f)
 
-  pub it-fits : (v i : ℕ) → pair_of ps c ≡ Value v → slot_of st c ≡ At i → repeated_at ps st start k ≡ false → staged_at (get_or st i no_st) size k ≡ true
+  pub it-fits : (v i : ℕ) → pair_of ps c ≡ Some v → slot_of st c ≡ Some i → repeated_at ps st start k ≡ false → staged_at (get_or st i no_st) size k ≡ true
       → fits ps st start size k ≡ true
   unfolding fits is_value is_at
   it-fits v i a b r f =

@@ -10,13 +10,11 @@ ghost use Rattle.chains.specs.Chains.{staged_at, no_chain, complete_of};
 ghost use Rattle.chains.specs.Needed.{needed_at};
 ghost use Rattle.chains.specs.Column.{ClustersOf, cluster_here};
 
-use loops::Found;
-use state::pairs::{PairOf, pair_of};
+use state::pairs::pair_of;
 use state::w::{NPAIR, NST, Pair, St};
 use vdisk::drive::{CB, SPC, nclus};
 
-// A file's chain: whether it is complete, its staging slots in the file's order, and how many they are.
-#[repr(C)]
+// Is a file's chain complete; its staging slots in the file's order, zeros after them, and how many they are, 0 if it isn't. The paper names the flag beside them.
 #[derive(Clone, Copy)]
 pub struct Chain {
     pub found: bool,
@@ -24,30 +22,12 @@ pub struct Chain {
     pub n: usize,
 }
 
-// No answer.
-fn no_chain() -> Chain
-    ensures { result ≡ no_chain }
-{
-    Chain {
-        found: false,
-        slots: [0u8; NST],
-        n: 0,
-    }
-}
-
 // Slot `i` is one of the first `k`.
 fn is_repeated(slots: [u8; NST], k: usize, i: u8) -> bool
     requires { k ≤ max_slots }
     ensures { result ≡ some (λ j. eqb (get_or slots j 0) i) k 0 }
 {
-    let mut j = 0;
-    while j < k {
-        if slots[j] == i {
-            return true;
-        }
-        j += 1;
-    }
-    false
+    slots[..k].contains(&i)
 }
 
 // The sectors of the `k`-th cluster that the file reaches into, by bit.
@@ -86,29 +66,31 @@ fn is_cluster(held: u16, c: u32) -> bool
 fn clusters_of(st: [St; NST]) -> [u16; NST]
     ensures { ClustersOf st result }
 {
+    // A loop, since `map` of an array takes longer, and 1,000 bytes more of stack.
     let mut out = [0u16; NST];
-    let mut i = 0;
-    while i < NST {
+    for i in 0..NST {
         let x = st[i];
         out[i] = x.c;
-        i += 1;
     }
     out
 }
 
 // The first slot in use for cluster `c`.
-fn slot_in(staged: &[u16], c: u32) -> Found
+fn slot_in(staged: &[u16], c: u32) -> Option<usize>
     requires { length staged.now ≡ max_slots }
     ensures { result ≡ find (cluster_here staged.now c) max_slots }
 {
-    let mut i = 0;
-    while i < NST {
-        if is_cluster(staged[i], c) {
-            return Found::At(i);
-        }
-        i += 1;
+    staged.iter().position(|held| is_cluster(*held, c))
+}
+
+fn no_chain() -> Chain
+    ensures { result ≡ no_chain }
+{
+    Chain {
+        found: false,
+        slots: [0u8; NST],
+        n: 0,
     }
-    Found::Nothing
 }
 
 // The chain of a file by its start and size: every cluster has a pair and a staging slot of its own, with every needed sector staged, and the
@@ -126,12 +108,11 @@ pub fn complete(pair: [Pair; NPAIR], st: [St; NST], start: u32, size: u32) -> Ch
     let staged = clusters_of(st);
     let mut slots = [0u8; NST];
     let mut c = start;
-    let mut k = 0;
-    while k < n {
-        let PairOf::Value(next) = pair_of(pair, c) else {
+    for k in 0..n {
+        let Some(next) = pair_of(pair, c) else {
             return no_chain();
         };
-        let Found::At(i) = slot_in(&staged, c) else {
+        let Some(i) = slot_in(&staged, c) else {
             return no_chain();
         };
         if is_repeated(slots, k, i as u8) {
@@ -142,14 +123,13 @@ pub fn complete(pair: [Pair; NPAIR], st: [St; NST], start: u32, size: u32) -> Ch
         }
         slots[k] = i as u8;
         c = next as u32;
-        k += 1;
     }
     if c < 0xFFF8 {
         return no_chain();
     }
     Chain {
         found: true,
-        slots: slots,
-        n: n,
+        slots,
+        n,
     }
 }

@@ -1,7 +1,5 @@
 -- Which clusters are a file's and live, and which are the host's (document 01, "Judging a sector").
-use Rattle.std.specs.Prelude.{ℕ, Bool, true, false, not, ◌&&◌, List, get_or}
-use Rattle.loops.specs.declared.Found.{Found}
-use Rattle.loops.specs.declared.Found.TheVariants.{At, Nothing}
+use Rattle.std.specs.Prelude.{ℕ, Bool, true, false, not, ◌&&◌, List, get_or, Option, Some, None}
 use Rattle.vdisk.specs.Ids.{freed}
 use Rattle.vdisk.specs.Owner.{owner_of}
 use Rattle.vdisk.specs.declared.owner.Own.{Own}
@@ -9,9 +7,9 @@ use Rattle.vdisk.specs.declared.owner.Own.TheVariants.{Reserved, Fixed, Dyn, Fre
 use Rattle.state.specs.Pairs.{pair_idx}
 use Rattle.state.specs.declared.w.Pair.{Pair}
 
-unfoldable pub is_nothing : Found → Bool
-is_nothing (At i) = false
-is_nothing Nothing = true
+unfoldable pub is_nothing : Option ℕ → Bool
+is_nothing (Some i) = false
+is_nothing None = true
 
 -- A file's cluster is live when it isn't marked freed and has no pair.
 unfoldable pub is_live : List ℕ → List Pair → ℕ → ℕ → Bool

@@ -4,22 +4,12 @@
 
 ghost use Rattle.std.specs.Prelude.{◌≡◌, true, ℕ, ◌<◌, length};
 ghost use Rattle.vdisk.specs.Owner.{rises};
-ghost use Rattle.clusters.specs.Clusters.{is_nothing, is_live, host_cluster};
+ghost use Rattle.clusters.specs.Clusters.{is_live, host_cluster};
 
-use loops::Found;
 use state::pairs::pair_idx;
 use state::w::{NPAIR, Pair};
 use vdisk::ids::FREED;
 use vdisk::owner::{Own, owner};
-
-pub fn is_nothing(f: Found) -> bool
-    ensures { result ≡ is_nothing f }
-{
-    match f {
-        Found::At(_) => false,
-        Found::Nothing => true,
-    }
-}
 
 // Is cluster `c` of file `j` live: not marked freed, and without a pair.
 pub fn ours_live(ids: &[u16], pair: [Pair; NPAIR], j: usize, c: u32) -> bool
@@ -29,7 +19,7 @@ pub fn ours_live(ids: &[u16], pair: [Pair; NPAIR], j: usize, c: u32) -> bool
     if bits::test_u16(ids[j], FREED) {
         return false;
     }
-    is_nothing(pair_idx(pair, c))
+    pair_idx(pair, c).is_none()
 }
 
 // May the host own cluster `c`: free, or freed or taken by it. `sorted` as for `owner`.

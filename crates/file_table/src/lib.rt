@@ -31,14 +31,7 @@ pub struct VF {
 fn all_unmarked(ids: &[u16]) -> bool
     ensures { result ≡ all_unmarked ids.now }
 {
-    let mut j = 0;
-    while j < ids.len() {
-        if !is_unmarked(ids[j]) {
-            return false;
-        }
-        j += 1;
-    }
-    true
+    ids.iter().all(|id| is_unmarked(*id))
 }
 
 // Where the starts rise, it is enough that each file ends at or before the next one's start.
@@ -46,13 +39,11 @@ fn starts_apart(starts: &[u16], sizes: &[u32]) -> bool
     requires { (length starts.now ≡ length sizes.now) × (rises starts.now ≡ true) }
     ensures { result ≡ starts_apart starts.now sizes.now }
 {
-    let mut j = 0;
-    while j + 1 < starts.len() {
-        let end = starts[j] as u32 + nclus(sizes[j]);
-        if (starts[j + 1] as u32) < end {
+    for j in 1..starts.len() {
+        let end = starts[j - 1] as u32 + nclus(sizes[j - 1]);
+        if (starts[j] as u32) < end {
             return false;
         }
-        j += 1;
     }
     true
 }
@@ -75,12 +66,10 @@ fn all_in(starts: &[u16], sizes: &[u32], first: u32) -> bool
     requires { length starts.now ≡ length sizes.now }
     ensures { result ≡ all_in starts.now sizes.now first }
 {
-    let mut j = 0;
-    while j < starts.len() {
-        if !clusters_in(first, starts[j] as u32, nclus(sizes[j])) {
+    for (start, size) in starts.iter().zip(sizes) {
+        if !clusters_in(first, *start as u32, nclus(*size)) {
             return false;
         }
-        j += 1;
     }
     true
 }
@@ -92,13 +81,9 @@ fn shares_name(ids: &[u16], j: usize) -> bool
 {
     let name = clear_marks(ids[j]);
     let mut found = false;
-    let mut i = 0;
-    while i < j {
-        if ids[i] % 4096 == name {
+    for id in &ids[..j] {
+        if *id % 4096 == name {
             found = true;
-            i += 1;
-        } else {
-            i += 1;
         }
     }
     found
@@ -107,12 +92,10 @@ fn shares_name(ids: &[u16], j: usize) -> bool
 fn names_apart(ids: &[u16]) -> bool
     ensures { result ≡ names_apart ids.now }
 {
-    let mut j = 0;
-    while j < ids.len() {
+    for j in 0..ids.len() {
         if shares_name(ids, j) {
             return false;
         }
-        j += 1;
     }
     true
 }
@@ -130,13 +113,9 @@ fn shares_place(ids: &[u16], slots: &[u16], j: usize) -> bool
 {
     let key = place_key(ids[j], slots[j]);
     let mut found = false;
-    let mut i = 0;
-    while i < j {
+    for i in 0..j {
         if place_key(ids[i], slots[i]) == key {
             found = true;
-            i += 1;
-        } else {
-            i += 1;
         }
     }
     found
@@ -146,12 +125,10 @@ fn places_apart(ids: &[u16], slots: &[u16]) -> bool
     requires { length ids.now ≡ length slots.now }
     ensures { result ≡ places_apart ids.now slots.now }
 {
-    let mut j = 0;
-    while j < ids.len() {
+    for j in 0..ids.len() {
         if shares_place(ids, slots, j) {
             return false;
         }
-        j += 1;
     }
     true
 }

@@ -36,14 +36,12 @@ pub fn load(files: &[VF]) -> Columns
     let mut starts = [0; MAX_VF];
     let mut sizes = [0; MAX_VF];
     let n = rows_taken(files.len());
-    let mut i = 0;
-    while i < n {
+    for i in 0..n {
         let f = files[i];
         ids[i] = f.id;
         slots[i] = f.slot;
         starts[i] = f.vstart;
         sizes[i] = f.vsize;
-        i = i + 1;
     }
     let rows = files.len();
     Columns {
@@ -60,9 +58,7 @@ pub fn set_ids(files: &mut [VF], ids: [u16; MAX_VF])
     ensures { files.new ≡ with_ids files.old (take (rows_taken (length files.old)) ids) }
 {
     let n = rows_taken(files.len());
-    let mut i = 0;
-    while i < n {
-        files[i].id = ids[i];
-        i = i + 1;
+    for j in 0..n {
+        files[j].id = ids[j];
     }
 }

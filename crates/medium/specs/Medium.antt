@@ -1,7 +1,6 @@
 -- The medium and its blocks (document 01, "The drive").
 use Rattle.std.specs.Prelude.{ℕ, ◌+◌, ◌-◌, ◌*◌, max, Bool, true, false, ◌&&◌, List, leb, ltb, eqb, length, get_or, take, drop}
 use Rattle.loops.specs.Loops.{pick, first}
-use Rattle.medium.specs.declared.blocks.NextFree.{NextFree}
 
 -- The medium is two lent slices: 3 to 65,526 FAT entries of 16 bits, and 4,096 bytes for each entry after the second.
 unfoldable pub is_medium : List ℕ → List ℕ → Bool
@@ -22,8 +21,14 @@ free_at fat i = eqb (get_or fat i 0) 0
 unfoldable pub search_end : List ℕ → ℕ → ℕ
 search_end fat hint = first (free_at fat) (length fat - max hint 2) (max hint 2)
 
+-- what a search for a free block finds: was one found, which one, and the hint then
+pub record Free : Type 0 where
+  pub found : Bool
+  pub block : ℕ
+  pub hint : ℕ
+
 -- the block that was found, 0 where none was, and the hint then: past the block found, or where the search ended
-unfoldable pub next_free : List ℕ → ℕ → NextFree
+unfoldable pub next_free : List ℕ → ℕ → Free
 next_free fat hint =
     pick (ltb (search_end fat hint) (length fat))
     (record { found = true; block = search_end fat hint; hint = search_end fat hint + 1 })

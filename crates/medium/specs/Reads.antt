@@ -1,15 +1,12 @@
 -- What staged sectors read as, and whether one names a file (document 01, "The drive" and "Judging a sector").
-use Rattle.std.specs.Prelude.{ℕ, ◌*◌, ◌/◌, ◌%◌, Bool, true, false, not, ◌&&◌, List, leb, eqb, length, get_or, take, drop, replicate}
+use Rattle.std.specs.Prelude.{ℕ, ◌*◌, ◌/◌, ◌%◌, Bool, true, false, not, ◌&&◌, List, leb, eqb, length, get_or, take, drop, replicate, Option, Some, None}
 use Rattle.loops.specs.Loops.{pick, some}
-use Rattle.loops.specs.declared.Found.{Found}
-use Rattle.loops.specs.declared.Found.TheVariants.{At, Nothing}
 use Rattle.bits.specs.Bit.{bit}
 use Rattle.slots.specs.Slots.{refers_to}
 use Rattle.state.specs.State.{max_slots, no_st}
 use Rattle.state.specs.Staged.{slot_of}
 use Rattle.state.specs.declared.w.St.{St}
 use Rattle.medium.specs.Medium.{has_block, block_of}
-use Rattle.medium.specs.declared.reads.StagedRead.{StagedRead}
 
 -- the block that a slot holds for its sector s, 0 for none
 abbrev pub held_block : St → ℕ → ℕ
@@ -21,16 +18,20 @@ sector_of fat area x s =
     pick (bit x.map s && has_block fat area (held_block x s)) (take 512 (drop (s % 8 * 512) (block_of area (held_block x s)))) (replicate 512 0)
 
 -- the refusal number, 0 where there is none, beside whether the cluster is staged
+pub record StagedRead : Type 0 where
+  pub no : ℕ
+  pub staged : Bool
+
 abbrev pub read_answer : ℕ → Bool → StagedRead
 read_answer number b = record { no = number; staged = b }
 
-unfoldable pub found_answer : Found → StagedRead
-found_answer (At i) = read_answer 0 true
-found_answer Nothing = read_answer 0 false
+unfoldable pub found_answer : Option ℕ → StagedRead
+found_answer (Some i) = read_answer 0 true
+found_answer None = read_answer 0 false
 
-unfoldable pub found_bytes : List ℕ → List ℕ → List St → ℕ → List ℕ → Found → List ℕ
-found_bytes fat area st s out (At i) = sector_of fat area (get_or st i no_st) s
-found_bytes fat area st s out Nothing = out
+unfoldable pub found_bytes : List ℕ → List ℕ → List St → ℕ → List ℕ → Option ℕ → List ℕ
+found_bytes fat area st s out (Some i) = sector_of fat area (get_or st i no_st) s
+found_bytes fat area st s out None = out
 
 -- `staged_read` of a cluster and a sector into a buffer: 1 where the buffer isn't 512 bytes, 2 for a sector of a cluster from 64 up
 unfoldable pub staged_answer : List St → ℕ → ℕ → List ℕ → StagedRead

@@ -1,5 +1,6 @@
 // The medium's blocks.
-ghost use Rattle.std.specs.Prelude.{◌≡◌, ℕ, ◌+◌, ◌-◌, ◌*◌, ◌<◌, ◌≤◌, length};
+ghost use Rattle.std.specs.Prelude.{◌≡◌, ℕ, ◌+◌, ◌-◌, ◌*◌, ◌<◌, ◌≤◌, length, Some, None};
+ghost use Rattle.loops.specs.Loops.{pick};
 ghost use Rattle.medium.specs.Medium.{is_medium, has_block, block_of, next_free};
 
 // Bytes of a block.
@@ -41,33 +42,30 @@ pub fn block(area: &[u8], b: usize) -> &[u8]
     &area[at..end]
 }
 
-// What a search for a free block answers, and where the next one goes on.
+// The free block that a search found, if it found one, and where the next search goes on.
 #[derive(Clone, Copy)]
 pub struct NextFree {
-    pub found: bool,
-    pub block: u16,
+    pub block: Option<u16>,
     pub hint: u32,
 }
 
 // The first FAT entry of 0 from the hint.
 pub fn next_free(fat: &[u16], hint: u32) -> NextFree
     requires { length fat.now ≤ 65526 }
-    ensures { result ≡ next_free fat.now hint }
+    ensures block { result.block ≡ pick (next_free fat.now hint).found (Some (next_free fat.now hint).block) None }
+    ensures hint { result.hint ≡ (next_free fat.now hint).hint }
 {
-    let mut i = num::max_u32(hint, 2);
-    while (i as usize) < fat.len() {
-        if fat[i as usize] == 0 {
+    let from = num::max_u32(hint, 2);
+    for i in from as usize..fat.len() {
+        if fat[i] == 0 {
             return NextFree {
-                found: true,
-                block: i as u16,
-                hint: i + 1,
+                block: Some(i as u16),
+                hint: i as u32 + 1,
             };
         }
-        i += 1;
     }
     NextFree {
-        found: false,
-        block: 0,
-        hint: i,
+        block: None,
+        hint: num::max_u32(from, fat.len() as u32),
     }
 }

@@ -1,22 +1,15 @@
 // What is read of staged sectors.
-ghost use Rattle.std.specs.Prelude.{◌≡◌, ℕ, ◌+◌, ◌-◌, ◌*◌, ◌<◌, ◌≤◌, length, take, drop};
+ghost use Rattle.std.specs.Prelude.{◌≡◌, ℕ, ◌+◌, ◌-◌, ◌*◌, ◌<◌, ◌≤◌, false, length, take, drop};
 ghost use Rattle.loops.specs.Loops.{pick};
 ghost use Rattle.bits.specs.Bit.{bit};
 ghost use Rattle.slots.specs.Slots.{refers_to};
+ghost use Rattle.refusals.specs.Refusals.{told, value_or};
 ghost use Rattle.medium.specs.Medium.{block_of};
 ghost use Rattle.medium.specs.Reads.{held_block, sector_of, staged_answer, staged_bytes, slot_names, moved_ref};
 
 use crate::blocks::{block, has_block};
-use loops::Found;
+use refusals::Refusal;
 use state::w::{NST, St};
-
-// The refusal number, 0 where there is none, and whether the cluster is staged.
-#[repr(C)]
-#[derive(Clone, Copy)]
-pub struct StagedRead {
-    pub no: u8,
-    pub staged: bool,
-}
 
 // Sector `q` of a block, as the caller's own bytes.
 fn block_sector(area: &[u8], b: usize, q: usize) -> &[u8]
@@ -55,7 +48,7 @@ pub fn read_sector(fat: &[u16], area: &[u8], x: St, s: u32, out: &mut [u8])
     sector::copy(out, part);
 }
 
-// Sector `s` of cluster `c` if the host wrote data there, zeros where it wrote none.
+// Sector `s` of cluster `c` if the host wrote data there, zeros where it wrote none. Says whether the cluster is staged.
 pub fn staged_read(
     st: [St; NST],
     fat: &[u16],
@@ -63,34 +56,23 @@ pub fn staged_read(
     c: u32,
     s: u32,
     out: &mut [u8],
-) -> StagedRead
-    ensures answer { result ≡ staged_answer st c s out.old }
+) -> Result<bool, Refusal>
+    ensures number { told result ≡ (staged_answer st c s out.old).no }
+    ensures staged { value_or false result ≡ (staged_answer st c s out.old).staged }
     ensures bytes { out.new ≡ staged_bytes fat.now area.now st c s out.old }
 {
     if out.len() != 512 {
-        return StagedRead {
-            no: 1,
-            staged: false,
-        };
+        return Err(Refusal::SectorLength);
     }
     if 64 <= s {
-        return StagedRead {
-            no: 2,
-            staged: false,
-        };
+        return Err(Refusal::PastTheEnd);
     }
-    let Found::At(i) = state::staged::slot_of(st, c) else {
-        return StagedRead {
-            no: 0,
-            staged: false,
-        };
+    let Some(i) = state::staged::slot_of(st, c) else {
+        return Ok(false);
     };
     let x = st[i];
     read_sector(fat, area, x, s, out);
-    StagedRead {
-        no: 0,
-        staged: true,
-    }
+    Ok(true)
 }
 
 // Does sector `s` of a staged cluster hold an ordinary slot with that start and length.
@@ -111,12 +93,10 @@ fn slot_names(fat: &[u16], area: &[u8], x: St, start: u16, size: u32) -> bool
     if x.c == 0 {
         return false;
     }
-    let mut s = 0;
-    while s < 64 {
+    for s in 0..64 {
         if sector_names(fat, area, x, s, start, size) {
             return true;
         }
-        s += 1;
     }
     false
 }
@@ -125,13 +105,10 @@ fn slot_names(fat: &[u16], area: &[u8], x: St, start: u16, size: u32) -> bool
 pub fn moved_ref(fat: &[u16], area: &[u8], st: [St; NST], start: u16, size: u32) -> bool
     ensures { result ≡ moved_ref fat.now area.now st start size }
 {
-    let mut i = 0;
-    while i < NST {
-        let x = st[i];
-        if slot_names(fat, area, x, start, size) {
+    for x in &st {
+        if slot_names(fat, area, *x, start, size) {
             return true;
         }
-        i += 1;
     }
     false
 }

@@ -1,11 +1,10 @@
 -- Laws of the records' places: what a lookup finds, and what setting a record does to it.
-use Rattle.std.specs.Prelude.{ℕ, ◌+◌, ◌<◌, true, false, List, ◌≡◌, length, get_or, set, replicate}
+use Rattle.std.specs.Prelude.{ℕ, ◌+◌, ◌<◌, true, false, List, ◌≡◌, length, get_or, set, replicate, Some, None}
 use Rattle.std.proofs.Math.Path.{refl, sym}
 use Rattle.std.proofs.Common.{◌∙◌, eqb-true, ne_eqb}
 use Rattle.std.proofs.Math.Seq.{get_or-set_same}
 use Rattle.loops.specs.Found.{found-by, find-lt, find-is, find-count, count-find}
 use Rattle.loops.specs.Keyed.{NoTwiceOf, used-found, used-none, found-in, other-found, other-stands, over-found, new-found, gone-found, no_twice-set, free-more, free-less, free-same}
-use Rattle.loops.specs.declared.Found.TheVariants.{At, Nothing}
 use Rattle.records.specs.Records.{max_records, no_rec, is_rec, rec_here, rec_idx, free_here, free_rec, free_recs, root_rec_at, root_rec}
 use Rattle.records.specs.declared.Rec.{Rec}
 
@@ -17,33 +16,33 @@ abbrev pub NoRecTwice : List Rec → Type 0
 NoRecTwice recs = NoTwiceOf slot_key no_rec max_records recs
 
 -- a place that was found is one of them
-pub rec_idx-lt : (recs : List Rec) (k i : ℕ) → rec_idx recs k ≡ At i → i < max_records
+pub rec_idx-lt : (recs : List Rec) (k i : ℕ) → rec_idx recs k ≡ Some i → i < max_records
 unfolding rec_idx
 rec_idx-lt recs k i e = find-lt (rec_here recs k) max_records i e
 
-pub free_rec-lt : (recs : List Rec) (i : ℕ) → free_rec recs ≡ At i → i < max_records
+pub free_rec-lt : (recs : List Rec) (i : ℕ) → free_rec recs ≡ Some i → i < max_records
 unfolding free_rec
 free_rec-lt recs i e = find-lt (free_here recs) max_records i e
 
 -- a lookup finds the root slot's record; where it finds nothing, there is none
-pub rec_idx-is : (recs : List Rec) (k i : ℕ) → rec_idx recs k ≡ At i → ((get_or recs i no_rec).slot ≡ k) × (k ≡ 0 → ⊥)
+pub rec_idx-is : (recs : List Rec) (k i : ℕ) → rec_idx recs k ≡ Some i → ((get_or recs i no_rec).slot ≡ k) × (k ≡ 0 → ⊥)
 unfolding rec_idx is_rec
 rec_idx-is recs k i e = used-found slot_key no_rec max_records recs k i e
 
-pub rec_idx-none : (recs : List Rec) (k i : ℕ) → rec_idx recs k ≡ Nothing → (k ≡ 0 → ⊥) → i < max_records → (get_or recs i no_rec).slot ≡ k → ⊥
+pub rec_idx-none : (recs : List Rec) (k i : ℕ) → rec_idx recs k ≡ None → (k ≡ 0 → ⊥) → i < max_records → (get_or recs i no_rec).slot ≡ k → ⊥
 unfolding rec_idx is_rec
 rec_idx-none recs k i e h l q = used-none slot_key no_rec max_records recs k i e h l q
 
-pub free_rec-is : (recs : List Rec) (i : ℕ) → free_rec recs ≡ At i → (get_or recs i no_rec).slot ≡ 0
+pub free_rec-is : (recs : List Rec) (i : ℕ) → free_rec recs ≡ Some i → (get_or recs i no_rec).slot ≡ 0
 unfolding free_rec
 free_rec-is recs i e = eqb-true (get_or recs i no_rec).slot 0 (find-is (free_here recs) max_records i e)
 
 -- no place is free exactly where none counts
-pub free_rec-none : (recs : List Rec) → free_rec recs ≡ Nothing → free_recs recs ≡ 0
+pub free_rec-none : (recs : List Rec) → free_rec recs ≡ None → free_recs recs ≡ 0
 unfolding free_rec free_recs
 free_rec-none recs e = find-count (free_here recs) max_records e
 
-pub free_recs-none : (recs : List Rec) → free_recs recs ≡ 0 → free_rec recs ≡ Nothing
+pub free_recs-none : (recs : List Rec) → free_recs recs ≡ 0 → free_rec recs ≡ None
 unfolding free_rec free_recs
 free_recs-none recs e = count-find (free_here recs) max_records e
 
@@ -77,18 +76,18 @@ module _ (recs : List Rec) (i : ℕ) (r : Rec) where
       (λ e. rw (other-found slot_key no_rec max_records recs i r k h g, e))
 
   -- a record that was set is looked up: over the one found, and in any place where there was none
-  pub root_rec-over : rec_idx recs r.slot ≡ At i → root_rec (set recs i r) r.slot ≡ record { found = true; e = r.e }
+  pub root_rec-over : rec_idx recs r.slot ≡ Some i → root_rec (set recs i r) r.slot ≡ record { found = true; e = r.e }
   unfolding root_rec root_rec_at rec_idx is_rec
   root_rec-over e =
       rw (over-found slot_key no_rec max_records recs i r refl e, get_or-set_same recs i r no_rec (found-in slot_key no_rec max_records recs refl r.slot i e))
 
-  pub root_rec-new : rec_idx recs r.slot ≡ Nothing → length recs ≡ max_records → i < max_records → (r.slot ≡ 0 → ⊥)
+  pub root_rec-new : rec_idx recs r.slot ≡ None → length recs ≡ max_records → i < max_records → (r.slot ≡ 0 → ⊥)
       → root_rec (set recs i r) r.slot ≡ record { found = true; e = r.e }
   unfolding root_rec root_rec_at rec_idx is_rec
   root_rec-new e n l h = rw (new-found slot_key no_rec max_records recs i r e l (rw n l) h, get_or-set_same recs i r no_rec (rw n l))
 
   -- and one that was removed is not
-  pub root_rec-gone : NoRecTwice recs → (k : ℕ) → rec_idx recs k ≡ At i → (r.slot ≡ k → ⊥)
+  pub root_rec-gone : NoRecTwice recs → (k : ℕ) → rec_idx recs k ≡ Some i → (r.slot ≡ k → ⊥)
       → root_rec (set recs i r) k ≡ record { found = false; e = replicate 32 0 }
   unfolding root_rec root_rec_at rec_idx is_rec
   root_rec-gone t k e g = rw (gone-found slot_key no_rec max_records recs i r t refl k e g)

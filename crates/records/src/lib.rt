@@ -2,10 +2,13 @@
 
 #![tactic(auto)]
 
-ghost use Rattle.std.specs.Prelude.{◌≡◌, ℕ};
-ghost use Rattle.records.specs.Records.{is_rec, rec_idx, free_rec, free_recs, root_rec};
+pub mod places;
 
-use loops::Found;
+ghost use Rattle.std.specs.Prelude.{◌≡◌, ℕ, replicate, is_some};
+ghost use Rattle.std.specs.Option.{unwrap_or};
+ghost use Rattle.records.specs.Records.{rec_idx, free_rec, free_recs, root_rec};
+
+use crate::places::{Place, count_free, first_free, index_of};
 
 // Places for records.
 pub const NREC: usize = 10;
@@ -18,82 +21,40 @@ pub struct Rec {
     pub e: [u8; 32],
 }
 
-// Is it the record of root slot `idx`.
-fn is_rec(r: Rec, idx: usize) -> bool
-    ensures { result ≡ is_rec r idx }
-{
-    if r.slot == 0 {
-        return false;
+impl Place for Rec {
+    ghost key = { λ r. r.slot };
+
+    fn key(&self) -> u16 {
+        self.slot
     }
-    r.slot as usize == idx
 }
 
 // The place of the record of root slot `idx`.
-pub fn rec_idx(rec: [Rec; NREC], idx: usize) -> Found
+pub fn rec_idx(rec: [Rec; NREC], idx: usize) -> Option<usize>
     ensures { result ≡ rec_idx rec idx }
 {
-    let mut i = 0;
-    while i < NREC {
-        let r = rec[i];
-        if is_rec(r, idx) {
-            return Found::At(i);
-        }
-        i += 1;
-    }
-    Found::Nothing
+    index_of(&rec, idx)
 }
 
 // The first place that is not in use.
-pub fn free_rec(rec: [Rec; NREC]) -> Found
+pub fn free_rec(rec: [Rec; NREC]) -> Option<usize>
     ensures { result ≡ free_rec rec }
 {
-    let mut i = 0;
-    while i < NREC {
-        let r = rec[i];
-        if r.slot == 0 {
-            return Found::At(i);
-        }
-        i += 1;
-    }
-    Found::Nothing
+    first_free(&rec)
 }
 
 // How many places are not in use.
 pub fn free_recs(rec: [Rec; NREC]) -> usize
     ensures { result ≡ free_recs rec }
 {
-    let mut n = 0;
-    let mut i = 0;
-    while i < NREC {
-        let r = rec[i];
-        if r.slot == 0 {
-            n += 1;
-            i += 1;
-        } else {
-            i += 1;
-        }
-    }
-    n
+    count_free(&rec)
 }
 
-// The host's record in root slot `idx`: is there one, and its bytes, zeros where there is none.
-#[repr(C)]
-#[derive(Clone, Copy)]
-pub struct RootRec {
-    pub found: bool,
-    pub e: [u8; 32],
-}
-
-pub fn root_rec(rec: [Rec; NREC], idx: usize) -> RootRec
-    ensures { result ≡ root_rec rec idx }
+// The bytes of the host's record in root slot `idx`, if there is one. The definition gives zeros where there is none.
+pub fn root_rec(rec: [Rec; NREC], idx: usize) -> Option<[u8; 32]>
+    ensures found { is_some result ≡ (root_rec rec idx).found }
+    ensures bytes { unwrap_or result (replicate 32 0) ≡ (root_rec rec idx).e }
 {
-    let Found::At(i) = rec_idx(rec, idx) else {
-        return RootRec {
-            found: false,
-            e: [0u8; 32],
-        };
-    };
-    let r = rec[i];
-    let e = r.e;
-    RootRec { found: true, e: e }
+    let i = rec_idx(rec, idx)?;
+    Some(rec[i].e)
 }

@@ -1,10 +1,9 @@
 -- How many places and slots are free after one is set, and after a pair is set.
-use Rattle.std.specs.Prelude.{ℕ, ◌+◌, ◌<◌, List, ◌≡◌, length, get_or, set}
+use Rattle.std.specs.Prelude.{ℕ, ◌+◌, ◌<◌, List, ◌≡◌, length, get_or, set, Some, None}
 use Rattle.std.proofs.Math.Path.{refl, sym}
 use Rattle.std.proofs.Common.{◌∙◌, ap, ne_eqb}
 use Rattle.loops.specs.Found.{found-by}
 use Rattle.loops.specs.Keyed.{free-more, free-less, free-same}
-use Rattle.loops.specs.declared.Found.TheVariants.{At, Nothing}
 use Rattle.state.specs.State.{max_pairs, max_slots, pair0, st0, no_st}
 use Rattle.state.specs.Setters.{with_pair, with_st}
 use Rattle.state.specs.Pairs.{pair_of, free_pair, free_pairs, drop_at, set_pair}
@@ -15,7 +14,6 @@ use Rattle.state.proofs.SetPairLaws.{drop-pair, set_pair-removed, set_pair-over,
 use Rattle.state.specs.declared.w.Pair.{Pair}
 use Rattle.state.specs.declared.w.St.{St}
 use Rattle.state.specs.declared.w.W.{W}
-use Rattle.state.specs.declared.pairs.PairOf.TheVariants.{Value, NoPair}
 
 -- one place is freed, taken, and set over
 module _ (ps : List Pair) (i : ℕ) (p : Pair) where
@@ -45,19 +43,19 @@ module _ (ss : List St) (k : ℕ) (s : St) where
   free_slots-over h g = free-same st_key no_st max_slots ss k s (ne_eqb s.c 0 g ∙ sym (ne_eqb (get_or ss k no_st).c 0 h))
 
 -- the slot of cluster c is dropped
-pub drop-free_slots : (w : W) (c k : ℕ) → slot_of w.st c ≡ At k → free_slots (drop_at w (slot_of w.st c)).st ≡ free_slots w.st + 1
+pub drop-free_slots : (w : W) (c k : ℕ) → slot_of w.st c ≡ Some k → free_slots (drop_at w (slot_of w.st c)).st ≡ free_slots w.st + 1
 unfolding drop_at with_st
 drop-free_slots w c k e =
     let u = slot_of-is w.st c k e in
     rw e (free_slots-freed w.st k st0 (slot_of-lt w.st c k e) (λ q. u.1 (sym u.0 ∙ q)) refl)
 
-pub drop-none : (w : W) (c : ℕ) → slot_of w.st c ≡ Nothing → drop_at w (slot_of w.st c) ≡ w
+pub drop-none : (w : W) (c : ℕ) → slot_of w.st c ≡ None → drop_at w (slot_of w.st c) ≡ w
 unfolding drop_at
 drop-none w c e = rw e
 
 -- the pair of cluster c is set to v
 module _ (w : W) (c v : ℕ) where
-  module _ (u : ℕ) (e : pair_of w.pair c ≡ Value u) where
+  module _ (u : ℕ) (e : pair_of w.pair c ≡ Some u) where
     -- a pair is removed: one place more, and one slot more where it had one
     pub free_pairs-removed : v ≡ 0 → free_pairs (set_pair w c v).pair ≡ free_pairs w.pair + 1
     unfolding with_pair
@@ -67,13 +65,13 @@ module _ (w : W) (c v : ℕ) where
         rw (set_pair-removed w c v i q z, drop-pair (with_pair w (set w.pair i pair0)) (slot_of w.st c))
         (free_pairs-freed w.pair i pair0 (pair_idx-lt w.pair c i q) (λ y. x.1 (sym x.0 ∙ y)) refl))
 
-    pub free_slots-removed : v ≡ 0 → (k : ℕ) → slot_of w.st c ≡ At k → free_slots (set_pair w c v).st ≡ free_slots w.st + 1
+    pub free_slots-removed : v ≡ 0 → (k : ℕ) → slot_of w.st c ≡ Some k → free_slots (set_pair w c v).st ≡ free_slots w.st + 1
     unfolding with_pair
     free_slots-removed z k f =
         some-pair_of w.pair c u e
         (λ i q r. rw (set_pair-removed w c v i q z) (drop-free_slots (with_pair w (set w.pair i pair0)) c k f))
 
-    pub slots-removed : v ≡ 0 → slot_of w.st c ≡ Nothing → (set_pair w c v).st ≡ w.st
+    pub slots-removed : v ≡ 0 → slot_of w.st c ≡ None → (set_pair w c v).st ≡ w.st
     unfolding with_pair
     slots-removed z f =
         some-pair_of w.pair c u e
@@ -87,7 +85,7 @@ module _ (w : W) (c v : ℕ) where
         (λ i q r. let x = pair_idx-is w.pair c i q in
         rw (set_pair-over w c v i q h) (free_pairs-over w.pair i (record { c = c; v = v }) (λ y. x.1 (sym x.0 ∙ y)) x.1))
 
-  module _ (e : pair_of w.pair c ≡ NoPair) where
+  module _ (e : pair_of w.pair c ≡ None) where
     -- a pair is added: one place less
     pub free_pairs-added : length w.pair ≡ max_pairs → (c ≡ 0 → ⊥) → (v ≡ 0 → ⊥) → (free_pairs w.pair ≡ 0 → ⊥)
         → free_pairs (set_pair w c v).pair + 1 ≡ free_pairs w.pair

@@ -1,5 +1,5 @@
 -- What setting a pair does to every cluster's pair and staging slot, and that it changes nothing else.
-use Rattle.std.specs.Prelude.{ℕ, ◌<◌, List, ◌≡◌, eqb, length, get_or, set}
+use Rattle.std.specs.Prelude.{ℕ, ◌<◌, List, ◌≡◌, eqb, length, get_or, set, Option, Some, None}
 use Rattle.std.proofs.Math.Path.{refl, sym}
 use Rattle.std.proofs.Common.{◌∙◌, length-set}
 use Rattle.std.proofs.Math.Seq.{get_or-set_same}
@@ -7,8 +7,6 @@ use borrow.Author.Tests.{eqb-true, eqb-false, eq-eqb, ne_eqb}
 use Rattle.loops.specs.Choices.{either, pick-by}
 use Rattle.loops.specs.Found.{found-by}
 use Rattle.loops.specs.Keyed.{found-in, other-found, other-stands, over-found, new-found, gone-found, no_twice-set}
-use Rattle.loops.specs.declared.Found.{Found}
-use Rattle.loops.specs.declared.Found.TheVariants.{At, Nothing}
 use Rattle.state.specs.State.{max_pairs, max_slots, pair0, st0, no_st}
 use Rattle.state.specs.Setters.{with_pair, with_st}
 use Rattle.state.specs.Pairs.{is_pair, pair_idx, pair_at, pair_of, free_pair, free_pairs, drop_at, add_at, set_at, set_pair}
@@ -18,50 +16,49 @@ use Rattle.state.proofs.LookupLaws.{pair_key, st_key, NoTwice, NoSlotTwice, pair
 use Rattle.state.specs.declared.w.Pair.{Pair}
 use Rattle.state.specs.declared.w.St.{St}
 use Rattle.state.specs.declared.w.W.{W}
-use Rattle.state.specs.declared.pairs.PairOf.TheVariants.{Value, NoPair}
 
-pub drop-pair : (w : W) (f : Found) → (drop_at w f).pair ≡ w.pair
+pub drop-pair : (w : W) (f : Option ℕ) → (drop_at w f).pair ≡ w.pair
 unfolding drop_at with_st
-drop-pair w (At k) = refl
-drop-pair w Nothing = refl
+drop-pair w (Some k) = refl
+drop-pair w None = refl
 
-drop-st : (P : List St → Type 0) (w : W) (f : Found) → P w.st → ((k : ℕ) → f ≡ At k → P (set w.st k st0)) → P (drop_at w f).st
+drop-st : (P : List St → Type 0) (w : W) (f : Option ℕ) → P w.st → ((k : ℕ) → f ≡ Some k → P (set w.st k st0)) → P (drop_at w f).st
 unfolding drop_at with_st
-drop-st P w (At k) h g = g k refl
-drop-st P w Nothing h g = h
+drop-st P w (Some k) h g = g k refl
+drop-st P w None h g = h
 
 -- The ways to set the pair of cluster c to v.
 module _ (w : W) (c v : ℕ) where
   -- it is removed, with its staging slot
-  pub set_pair-removed : (i : ℕ) → pair_idx w.pair c ≡ At i → v ≡ 0 → set_pair w c v ≡ drop_at (with_pair w (set w.pair i pair0)) (slot_of w.st c)
+  pub set_pair-removed : (i : ℕ) → pair_idx w.pair c ≡ Some i → v ≡ 0 → set_pair w c v ≡ drop_at (with_pair w (set w.pair i pair0)) (slot_of w.st c)
   unfolding set_pair set_at
   set_pair-removed i e z = rw (e, eq-eqb v 0 z)
 
   -- its value changes
-  pub set_pair-over : (i : ℕ) → pair_idx w.pair c ≡ At i → (v ≡ 0 → ⊥) → set_pair w c v ≡ with_pair w (set w.pair i (record { c = c; v = v }))
+  pub set_pair-over : (i : ℕ) → pair_idx w.pair c ≡ Some i → (v ≡ 0 → ⊥) → set_pair w c v ≡ with_pair w (set w.pair i (record { c = c; v = v }))
   unfolding set_pair set_at
   set_pair-over i e h = rw (e, ne_eqb v 0 h, (pair_idx-is w.pair c i e).0)
 
   -- it is new, in a place that was free
-  pub set_pair-new : (i : ℕ) → pair_idx w.pair c ≡ Nothing → (v ≡ 0 → ⊥) → free_pair w.pair ≡ At i
+  pub set_pair-new : (i : ℕ) → pair_idx w.pair c ≡ None → (v ≡ 0 → ⊥) → free_pair w.pair ≡ Some i
       → set_pair w c v ≡ with_pair w (set w.pair i (record { c = c; v = v }))
   unfolding set_pair set_at add_at
   set_pair-new i e h f = rw (e, ne_eqb v 0 h, f)
 
   -- nothing is set: there is no pair to remove, or no place for a new one
-  pub set_pair-none : pair_idx w.pair c ≡ Nothing → v ≡ 0 → set_pair w c v ≡ w
+  pub set_pair-none : pair_idx w.pair c ≡ None → v ≡ 0 → set_pair w c v ≡ w
   unfolding set_pair set_at
   set_pair-none e z = rw (e, eq-eqb v 0 z)
 
-  pub set_pair-full : pair_idx w.pair c ≡ Nothing → free_pair w.pair ≡ Nothing → set_pair w c v ≡ w
+  pub set_pair-full : pair_idx w.pair c ≡ None → free_pair w.pair ≡ None → set_pair w c v ≡ w
   unfolding set_pair set_at add_at
   set_pair-full e f = rw (e, f) (pick-by (λ (x : W). x ≡ w) (eqb v 0) w w (λ q. refl) (λ q. refl))
 
   -- what holds of each of these holds of what was set
   pub set_pair-by : (P : W → Type 0)
-      → ((i : ℕ) → pair_idx w.pair c ≡ At i → v ≡ 0 → P (drop_at (with_pair w (set w.pair i pair0)) (slot_of w.st c)))
-      → ((i : ℕ) → pair_idx w.pair c ≡ At i → (v ≡ 0 → ⊥) → P (with_pair w (set w.pair i (record { c = c; v = v }))))
-      → ((i : ℕ) → pair_idx w.pair c ≡ Nothing → (v ≡ 0 → ⊥) → free_pair w.pair ≡ At i → P (with_pair w (set w.pair i (record { c = c; v = v }))))
+      → ((i : ℕ) → pair_idx w.pair c ≡ Some i → v ≡ 0 → P (drop_at (with_pair w (set w.pair i pair0)) (slot_of w.st c)))
+      → ((i : ℕ) → pair_idx w.pair c ≡ Some i → (v ≡ 0 → ⊥) → P (with_pair w (set w.pair i (record { c = c; v = v }))))
+      → ((i : ℕ) → pair_idx w.pair c ≡ None → (v ≡ 0 → ⊥) → free_pair w.pair ≡ Some i → P (with_pair w (set w.pair i (record { c = c; v = v }))))
       → P w → P (set_pair w c v)
   set_pair-by P removed over new same =
       either (eqb v 0)
@@ -72,16 +69,16 @@ module _ (w : W) (c v : ℕ) where
       (λ e. found-by (free_pair w.pair) (λ i f. rw (set_pair-new i e h f) (new i e h f)) (λ f. rw (set_pair-full e f) same)))
 
   pub pair-by : (P : List Pair → Type 0)
-      → ((i : ℕ) → pair_idx w.pair c ≡ At i → v ≡ 0 → P (set w.pair i pair0))
-      → ((i : ℕ) → pair_idx w.pair c ≡ At i → (v ≡ 0 → ⊥) → P (set w.pair i (record { c = c; v = v })))
-      → ((i : ℕ) → pair_idx w.pair c ≡ Nothing → (v ≡ 0 → ⊥) → free_pair w.pair ≡ At i → P (set w.pair i (record { c = c; v = v })))
+      → ((i : ℕ) → pair_idx w.pair c ≡ Some i → v ≡ 0 → P (set w.pair i pair0))
+      → ((i : ℕ) → pair_idx w.pair c ≡ Some i → (v ≡ 0 → ⊥) → P (set w.pair i (record { c = c; v = v })))
+      → ((i : ℕ) → pair_idx w.pair c ≡ None → (v ≡ 0 → ⊥) → free_pair w.pair ≡ Some i → P (set w.pair i (record { c = c; v = v })))
       → P w.pair → P (set_pair w c v).pair
   unfolding with_pair
   pair-by P removed over new same =
       set_pair-by (λ x. P x.pair) (λ i e z. rw (drop-pair (with_pair w (set w.pair i pair0)) (slot_of w.st c)) (removed i e z)) over new same
 
   pub st-by : (P : List St → Type 0) → P w.st
-      → ((i k : ℕ) → pair_idx w.pair c ≡ At i → v ≡ 0 → slot_of w.st c ≡ At k → P (set w.st k st0)) → P (set_pair w c v).st
+      → ((i k : ℕ) → pair_idx w.pair c ≡ Some i → v ≡ 0 → slot_of w.st c ≡ Some k → P (set w.st k st0)) → P (set_pair w c v).st
   unfolding with_pair
   st-by P same dropped =
       set_pair-by (λ x. P x.st)
@@ -111,15 +108,15 @@ module _ (ps : List Pair) (i : ℕ) (p : Pair) where
       rw (other-found pair_key pair0 max_pairs ps i p c h g, e, other-stands pair_key pair0 max_pairs ps i p j (λ q. h (q ∙ u.0))))
       (λ e. rw (other-found pair_key pair0 max_pairs ps i p c h g, e))
 
-  set-over : pair_idx ps p.c ≡ At i → pair_of (set ps i p) p.c ≡ Value p.v
+  set-over : pair_idx ps p.c ≡ Some i → pair_of (set ps i p) p.c ≡ Some p.v
   unfolding pair_of pair_at pair_idx is_pair
   set-over e = rw (over-found pair_key pair0 max_pairs ps i p refl e, get_or-set_same ps i p pair0 (found-in pair_key pair0 max_pairs ps refl p.c i e))
 
-  set-new : length ps ≡ max_pairs → pair_idx ps p.c ≡ Nothing → i < max_pairs → (p.c ≡ 0 → ⊥) → pair_of (set ps i p) p.c ≡ Value p.v
+  set-new : length ps ≡ max_pairs → pair_idx ps p.c ≡ None → i < max_pairs → (p.c ≡ 0 → ⊥) → pair_of (set ps i p) p.c ≡ Some p.v
   unfolding pair_of pair_at pair_idx is_pair
   set-new n e l h = rw (new-found pair_key pair0 max_pairs ps i p e l (rw n l) h, get_or-set_same ps i p pair0 (rw n l))
 
-  set-gone : NoTwice ps → (c : ℕ) → pair_idx ps c ≡ At i → (p.c ≡ c → ⊥) → pair_of (set ps i p) c ≡ NoPair
+  set-gone : NoTwice ps → (c : ℕ) → pair_idx ps c ≡ Some i → (p.c ≡ c → ⊥) → pair_of (set ps i p) c ≡ None
   unfolding pair_of pair_at pair_idx is_pair
   set-gone t c e g = rw (gone-found pair_key pair0 max_pairs ps i p t refl c e g)
 
@@ -138,8 +135,8 @@ module _ (w : W) (c v : ℕ) where
       refl)
 
   -- the cluster's own is v, where it had one or a place was free
-  pub pair_of-same : length w.pair ≡ max_pairs → (c ≡ 0 → ⊥) → (v ≡ 0 → ⊥) → (pair_of w.pair c ≡ NoPair → free_pairs w.pair ≡ 0 → ⊥)
-      → pair_of (set_pair w c v).pair c ≡ Value v
+  pub pair_of-same : length w.pair ≡ max_pairs → (c ≡ 0 → ⊥) → (v ≡ 0 → ⊥) → (pair_of w.pair c ≡ None → free_pairs w.pair ≡ 0 → ⊥)
+      → pair_of (set_pair w c v).pair c ≡ Some v
   unfolding with_pair
   pair_of-same n g h some =
       let p : Pair = record { c = c; v = v } in
@@ -150,7 +147,7 @@ module _ (w : W) (c v : ℕ) where
       (λ f. absurd (some (pair_of-none w.pair c e) (free_pair-none w.pair f))))
 
   -- and it has none once it is 0
-  pub pair_of-gone : NoTwice w.pair → v ≡ 0 → pair_of (set_pair w c v).pair c ≡ NoPair
+  pub pair_of-gone : NoTwice w.pair → v ≡ 0 → pair_of (set_pair w c v).pair c ≡ None
   unfolding with_pair
   pair_of-gone t z =
       found-by (pair_idx w.pair c)
@@ -188,7 +185,7 @@ module _ (w : W) (c v : ℕ) where
       st-by w c v (λ ss. get_or ss j no_st ≡ get_or w.st j no_st) refl
       (λ i k e z f. other-stands st_key no_st max_slots w.st k st0 j (λ y. h (sym y ∙ (slot_of-is w.st c k f).0)))
 
-  pub slot_of-gone : NoSlotTwice w.st → (u : ℕ) → pair_of w.pair c ≡ Value u → v ≡ 0 → slot_of (set_pair w c v).st c ≡ Nothing
+  pub slot_of-gone : NoSlotTwice w.st → (u : ℕ) → pair_of w.pair c ≡ Some u → v ≡ 0 → slot_of (set_pair w c v).st c ≡ None
   unfolding slot_of is_slot with_pair with_st drop_at
   slot_of-gone t u e z =
       some-pair_of w.pair c u e
@@ -225,10 +222,10 @@ only-pairs : (w : W) (ps : List Pair) (ss : List St) → OnlyPairs w (with_st (w
 unfolding with_pair with_st
 only-pairs w ps ss = record { rw = refl; want_rw = refl; boot = refl; fat1 = refl; rec = refl; session = refl; locks = refl; last = refl; now_ms = refl; staging = refl; stage_t = refl; hint = refl; err = refl; fw = refl; done = refl; ver = refl; end_at = refl; parks = refl; purged = refl; purge = refl; n = refl; first = refl }
 
-drop-only : (w : W) (ps : List Pair) (f : Found) → OnlyPairs w (drop_at (with_pair w ps) f)
+drop-only : (w : W) (ps : List Pair) (f : Option ℕ) → OnlyPairs w (drop_at (with_pair w ps) f)
 unfolding with_pair with_st drop_at
-drop-only w ps (At k) = only-pairs w ps (set w.st k st0)
-drop-only w ps Nothing = only-pairs w ps w.st
+drop-only w ps (Some k) = only-pairs w ps (set w.st k st0)
+drop-only w ps None = only-pairs w ps w.st
 
 pub set_pair-only : (w : W) (c v : ℕ) → OnlyPairs w (set_pair w c v)
 unfolding with_pair with_st

@@ -1,85 +1,39 @@
 // The host's FAT entries.
 ghost use Rattle.std.specs.Prelude.{◌≡◌, ℕ, ◌<◌};
-ghost use Rattle.state.specs.Pairs.{is_pair, pair_idx, pair_of, free_pair, free_pairs, drop_at, add_at, set_pair};
+ghost use Rattle.state.specs.Pairs.{pair_idx, pair_of, free_pair, free_pairs, drop_at, add_at, set_pair};
 ghost use Rattle.state.specs.Staged.{slot_of};
 
 use crate::staged::slot_of;
 use crate::w::{BPC, NPAIR, Pair, St, W};
-use loops::Found;
-
-// The host's FAT entry of a cluster, if it wrote one.
-#[derive(Clone, Copy)]
-pub enum PairOf {
-    Value(u16),
-    NoPair,
-}
-
-fn is_pair(p: Pair, c: u32) -> bool
-    ensures { result ≡ is_pair p c }
-{
-    if p.c == 0 {
-        return false;
-    }
-    p.c as u32 == c
-}
+use records::places::{count_free, first_free, index_of};
 
 // The place with the pair of cluster `c`.
-pub fn pair_idx(pair: [Pair; NPAIR], c: u32) -> Found
+pub fn pair_idx(pair: [Pair; NPAIR], c: u32) -> Option<usize>
     ensures { result ≡ pair_idx pair c }
 {
-    let mut i = 0;
-    while i < NPAIR {
-        let p = pair[i];
-        if is_pair(p, c) {
-            return Found::At(i);
-        }
-        i += 1;
-    }
-    Found::Nothing
+    index_of(&pair, c as usize)
 }
 
 // The host's FAT entry of cluster `c`, if it wrote one.
-pub fn pair_of(pair: [Pair; NPAIR], c: u32) -> PairOf
+pub fn pair_of(pair: [Pair; NPAIR], c: u32) -> Option<u16>
     ensures { result ≡ pair_of pair c }
 {
-    let Found::At(i) = pair_idx(pair, c) else {
-        return PairOf::NoPair;
-    };
-    let p = pair[i];
-    PairOf::Value(p.v)
+    let i = pair_idx(pair, c)?;
+    Some(pair[i].v)
 }
 
 // The first place that is not in use.
-pub fn free_pair(pair: [Pair; NPAIR]) -> Found
+pub fn free_pair(pair: [Pair; NPAIR]) -> Option<usize>
     ensures { result ≡ free_pair pair }
 {
-    let mut i = 0;
-    while i < NPAIR {
-        let p = pair[i];
-        if p.c == 0 {
-            return Found::At(i);
-        }
-        i += 1;
-    }
-    Found::Nothing
+    first_free(&pair)
 }
 
 // How many places are not in use.
 pub fn free_pairs(pair: [Pair; NPAIR]) -> usize
     ensures { result ≡ free_pairs pair }
 {
-    let mut n = 0;
-    let mut i = 0;
-    while i < NPAIR {
-        let p = pair[i];
-        if p.c == 0 {
-            n += 1;
-            i += 1;
-        } else {
-            i += 1;
-        }
-    }
-    n
+    count_free(&pair)
 }
 
 // A staging slot is not in use any more.
@@ -87,7 +41,7 @@ fn drop_slot(mut w: W, c: u32) -> W
     ensures { result ≡ drop_at w (slot_of w.st c) }
 {
     let st = w.st;
-    let Found::At(k) = slot_of(st, c) else {
+    let Some(k) = slot_of(st, c) else {
         return w;
     };
     w.st[k] = St {
@@ -105,7 +59,7 @@ fn add_pair(mut w: W, c: u16, v: u16) -> W
     ensures { result ≡ add_at w c v (free_pair w.pair) }
 {
     let pair = w.pair;
-    let Found::At(i) = free_pair(pair) else {
+    let Some(i) = free_pair(pair) else {
         return w;
     };
     w.pair[i] = Pair { c: c, v: v };
@@ -117,7 +71,7 @@ pub fn set_pair(mut w: W, c: u16, v: u16) -> W
     ensures { result ≡ set_pair w c v }
 {
     let pair = w.pair;
-    let Found::At(i) = pair_idx(pair, c as u32) else {
+    let Some(i) = pair_idx(pair, c as u32) else {
         if v == 0 {
             return w;
         }

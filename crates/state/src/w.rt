@@ -2,6 +2,7 @@
 ghost use Rattle.std.specs.Prelude.{◌≡◌};
 ghost use Rattle.state.specs.State.{initial};
 
+use records::places::Place;
 use records::{NREC, Rec};
 
 // Host FAT entries, and staged clusters, at most.
@@ -21,6 +22,14 @@ pub struct Pair {
     pub v: u16,
 }
 
+impl Place for Pair {
+    ghost key = { λ p. p.c };
+
+    fn key(&self) -> u16 {
+        self.c
+    }
+}
+
 // A staged cluster, 0 where the slot is not in use: linked into the update file, the parked blocks (by bit), the sectors written (by bit), and
 // the medium's block of each eighth of it, 0 where none is held.
 #[repr(C)]
@@ -31,6 +40,14 @@ pub struct St {
     pub ro: u8,
     pub map: u64,
     pub blk: [u16; BPC],
+}
+
+impl Place for St {
+    ghost key = { λ s. s.c };
+
+    fn key(&self) -> u16 {
+        self.c
+    }
 }
 
 // The last update file decided: root slot, start, size, and the version of what was staged.

@@ -1,10 +1,8 @@
 -- The drive's layout (document 01, "The drive" and "Corners of vdisk.rs").
-use Rattle.std.specs.Prelude.{ℕ, ◌+◌, ◌-◌, ◌/◌, ◌%◌, leb, ltb, eqb}
+use Rattle.std.specs.Prelude.{ℕ, ◌+◌, ◌-◌, ◌/◌, ◌%◌, leb, ltb, eqb, Option, Some, None}
 use Rattle.loops.specs.Loops.{pick}
 use Rattle.vdisk.specs.declared.drive.Place.{Place}
 use Rattle.vdisk.specs.declared.drive.Place.TheVariants.{Boot, Fat, Root, Data, Outside}
-use Rattle.vdisk.specs.declared.drive.DirKind.{DirKind}
-use Rattle.vdisk.specs.declared.drive.DirKind.TheVariants.{Kind, NoDir}
 
 -- 4,160,541 sectors in all
 abbrev pub total : ℕ
@@ -30,11 +28,11 @@ unfoldable pub clusters_of : ℕ → ℕ
 clusters_of size = (size + 32767) / 32768
 
 -- `dir_kind`: clusters 2 and 3 give 3; 4, 5, 6 give 0 (LOGS), 1 (SCOPE), 2 (SHOTS)
-unfoldable pub dir_kind_of : ℕ → DirKind
+unfoldable pub dir_kind_of : ℕ → Option ℕ
 dir_kind_of c =
-    pick (eqb c 2) (Kind 3)
-    (pick (eqb c 3) (Kind 3)
-    (pick (eqb c 4) (Kind 0)
-    (pick (eqb c 5) (Kind 1)
-    (pick (eqb c 6) (Kind 2)
-    NoDir))))
+    pick (eqb c 2) (Some 3)
+    (pick (eqb c 3) (Some 3)
+    (pick (eqb c 4) (Some 0)
+    (pick (eqb c 5) (Some 1)
+    (pick (eqb c 6) (Some 2)
+    None))))

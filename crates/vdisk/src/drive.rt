@@ -51,31 +51,25 @@ pub fn place_of(lba: u32) -> Place
 }
 
 // The generated directory that a cluster is, by file kind; 3 for INFO and DEBUG.
-#[derive(Clone, Copy)]
-pub enum DirKind {
-    Kind(u16),
-    NoDir,
-}
-
-pub fn dir_kind(c: u32) -> DirKind
+pub fn dir_kind(c: u32) -> Option<u16>
     ensures { result ≡ dir_kind_of c }
 {
     if c == 2 {
-        return DirKind::Kind(3);
+        return Some(3);
     }
     if c == 3 {
-        return DirKind::Kind(3);
+        return Some(3);
     }
     if c == 4 {
-        return DirKind::Kind(0);
+        return Some(0);
     }
     if c == 5 {
-        return DirKind::Kind(1);
+        return Some(1);
     }
     if c == 6 {
-        return DirKind::Kind(2);
+        return Some(2);
     }
-    DirKind::NoDir
+    None
 }
 
 // Clusters of a file of so many bytes.

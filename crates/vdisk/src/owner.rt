@@ -26,10 +26,8 @@ pub fn rising(starts: &[u16]) -> bool
     ensures { result ≡ rises starts.now }
 {
     let mut falls = 0;
-    let mut j = 0;
-    while j + 1 < starts.len() {
-        falls = falls + falls_at(starts[j], starts[j + 1]);
-        j += 1;
+    for j in 1..starts.len() {
+        falls += falls_at(starts[j - 1], starts[j]);
     }
     falls == 0
 }
@@ -38,17 +36,15 @@ pub fn rising(starts: &[u16]) -> bool
 fn up_to_by_rows(starts: &[u16], c: u32) -> usize
     ensures { result ≡ up_to starts.now c }
 {
-    let mut n = starts.len();
-    while 0 < n {
-        if starts[n - 1] as u32 <= c {
-            return n;
+    for j in (0..starts.len()).rev() {
+        if starts[j] as u32 <= c {
+            return j + 1;
         }
-        n -= 1;
     }
     0
 }
 
-// The same by halves.
+// The same by halves. This loop is a `while`, since a step halves the rows that are left and doesn't go on by one.
 fn up_to_by_halves(starts: &[u16], c: u32) -> usize
     requires { rises starts.now ≡ true }
     ensures { result ≡ up_to starts.now c }

@@ -1,4 +1,3 @@
-use Prim.Native.Nat.{◌≤◌, ◌-◌}
 use mathlib.Core.Path.{◌≡◌}
 use lib.ListN.{length}
 use Rattle.state.specs.State.{max_slots}
@@ -6,7 +5,4 @@ use Rattle.chains.specs.Column.{FilledTo}
 use Rattle.chains.proofs.clusters_of.Given as goal
 
 abbrev pub invariant-loop-i : goal.invariant-loop-i
-invariant-loop-i l = (l.i ≤ max_slots) × (length l.out ≡ max_slots) × FilledTo l.st l.out l.i
-
-abbrev pub decreases-loop-i : goal.decreases-loop-i
-decreases-loop-i l = max_slots - l.i
+invariant-loop-i l = (length l.out ≡ max_slots) × FilledTo l.st l.out l.i

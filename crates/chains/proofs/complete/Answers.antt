@@ -16,41 +16,31 @@ returns-then-n-eq0 c = c.no_chain-then-n-eq0.ensures ∙ complete-zero _ _ _ _ (
 
 pub loop-k-init : goal.loop-k-init
 unfolding link_at
-loop-k-init c = (omega arith, refl, slots-start _ _ _, all-start _ _)
+loop-k-init c = (refl, slots-start _ _ _, all-start _ _)
 
 pub returns-in_default : goal.returns-in_default
 returns-in_default c =
-    c.no_chain-in_default.ensures ∙ complete-stop _ _ _ _ _ _ c.nclus-n.ensures c.loop-k.invariant.3 c.loop-k-test.true (no-pair _ _ _ _ _ _ c.loop-k.invariant.1 (sym c.pair_of.ensures ∙ c.in_default.is))
-
-pub slice_bounds-slot_in-end : goal.slice_bounds-slot_in-end
-slice_bounds-slot_in-end c = sym c.clusters_of-staged.ensures.long
-
-pub slot_in-requires : goal.slot_in-requires
-slot_in-requires c = c.clusters_of-staged.ensures.long
+    c.no_chain-in_default.ensures ∙ complete-stop _ _ _ _ _ _ c.nclus-n.ensures c.loop-k.invariant.2 c.loop-k-test.true (no-pair _ _ _ _ _ _ c.loop-k.invariant.0 (sym c.pair_of.ensures ∙ c.in_default.is))
 
 pub returns-in_default-slot_in : goal.returns-in_default-slot_in
 returns-in_default-slot_in c =
-    c.no_chain-in_default-slot_in.ensures ∙ complete-stop _ _ _ _ _ _ c.nclus-n.ensures c.loop-k.invariant.3 c.loop-k-test.true (no-slot _ _ _ _ _ _ c.loop-k.invariant.1 (sym (c.slot_in.ensures ∙ slot-by _ _ _ c.clusters_of-staged.ensures) ∙ c.in_default-slot_in.is))
+    c.no_chain-in_default-slot_in.ensures ∙ complete-stop _ _ _ _ _ _ c.nclus-n.ensures c.loop-k.invariant.2 c.loop-k-test.true (no-slot _ _ _ _ _ _ c.loop-k.invariant.0 (sym (c.slot_in.ensures ∙ slot-by _ _ _ c.clusters_of-staged.ensures) ∙ c.in_default-slot_in.is))
 
 pub overflow_cast-i : goal.overflow_cast-i
-overflow_cast-i c = omega (arith, slot_of-lt _ _ _ (sym (c.slot_in.ensures ∙ slot-by _ _ _ c.clusters_of-staged.ensures) ∙ c.in-At.is))
-
-pub is_repeated-requires : goal.is_repeated-requires
-is_repeated-requires c =
-    omega (arith, c.loop-k-test.true, c.if-n-gt-NST.false)
+overflow_cast-i c = omega (arith, slot_of-lt _ _ _ (sym (c.slot_in.ensures ∙ slot-by _ _ _ c.clusters_of-staged.ensures) ∙ c.in-Some-slot_in.is))
 
 pub returns-then-is_repeated : goal.returns-then-is_repeated
 returns-then-is_repeated c =
-    c.no_chain-then-is_repeated.ensures ∙ complete-stop _ _ _ _ _ _ c.nclus-n.ensures c.loop-k.invariant.3 c.loop-k-test.true
-    (is-repeated _ _ _ _ _ _ c.loop-k.invariant.1
-    (sym (repeated-by _ _ _ _ _ _ c.loop-k.invariant.2 (place-by _ _ _ _ c.loop-k.invariant.1 _ _ (sym (c.slot_in.ensures ∙ slot-by _ _ _ c.clusters_of-staged.ensures) ∙ c.in-At.is)))
+    c.no_chain-then-is_repeated.ensures ∙ complete-stop _ _ _ _ _ _ c.nclus-n.ensures c.loop-k.invariant.2 c.loop-k-test.true
+    (is-repeated _ _ _ _ _ _ c.loop-k.invariant.0
+    (sym (repeated-by _ _ _ _ _ _ c.loop-k.invariant.1 (place-by _ _ _ _ c.loop-k.invariant.0 _ _ (sym (c.slot_in.ensures ∙ slot-by _ _ _ c.clusters_of-staged.ensures) ∙ c.in-Some-slot_in.is)))
     ∙ sym c.is_repeated.ensures ∙ c.if-is_repeated.true))
 
 pub offset_bounds-st-i : goal.offset_bounds-st-i
-offset_bounds-st-i c = omega (arith, slot_of-lt _ _ _ (sym (c.slot_in.ensures ∙ slot-by _ _ _ c.clusters_of-staged.ensures) ∙ c.in-At.is))
+offset_bounds-st-i c = omega (arith, slot_of-lt _ _ _ (sym (c.slot_in.ensures ∙ slot-by _ _ _ c.clusters_of-staged.ensures) ∙ c.in-Some-slot_in.is))
 
 pub bounds-st-i : goal.bounds-st-i
-bounds-st-i c = slot_of-lt _ _ _ (sym (c.slot_in.ensures ∙ slot-by _ _ _ c.clusters_of-staged.ensures) ∙ c.in-At.is)
+bounds-st-i c = slot_of-lt _ _ _ (sym (c.slot_in.ensures ∙ slot-by _ _ _ c.clusters_of-staged.ensures) ∙ c.in-Some-slot_in.is)
 
 pub is_staged-requires : goal.is_staged-requires
 unfolding clusters_of
@@ -59,45 +49,32 @@ is_staged-requires c =
 
 pub returns-then-not-is_staged : goal.returns-then-not-is_staged
 returns-then-not-is_staged c =
-    c.no_chain-then-not-is_staged.ensures ∙ complete-stop _ _ _ _ _ _ c.nclus-n.ensures c.loop-k.invariant.3 c.loop-k-test.true
-    (not-staged _ _ _ _ _ _ c.loop-k.invariant.1 _ (sym (c.slot_in.ensures ∙ slot-by _ _ _ c.clusters_of-staged.ensures) ∙ c.in-At.is) (sym c.is_staged.ensures ∙ c.if-not-is_staged.true))
+    c.no_chain-then-not-is_staged.ensures ∙ complete-stop _ _ _ _ _ _ c.nclus-n.ensures c.loop-k.invariant.2 c.loop-k-test.true
+    (not-staged _ _ _ _ _ _ c.loop-k.invariant.0 _ (sym (c.slot_in.ensures ∙ slot-by _ _ _ c.clusters_of-staged.ensures) ∙ c.in-Some-slot_in.is) (sym c.is_staged.ensures ∙ c.if-not-is_staged.true))
 
 pub overflow_cast-slots : goal.overflow_cast-slots
-overflow_cast-slots c = omega (arith, slot_of-lt _ _ _ (sym (c.slot_in.ensures ∙ slot-by _ _ _ c.clusters_of-staged.ensures) ∙ c.in-At.is))
-
-pub bounds-slots-k : goal.bounds-slots-k
-bounds-slots-k c =
-    omega (arith, c.loop-k-test.true, c.if-n-gt-NST.false)
-
-pub overflow_add-k : goal.overflow_add-k
-overflow_add-k c =
-    omega (arith, c.loop-k-test.true, c.if-n-gt-NST.false)
-
-pub loop-k-smaller : goal.loop-k-smaller
-loop-k-smaller c =
-    omega (arith, c.loop-k-test.true)
+overflow_cast-slots c = omega (arith, slot_of-lt _ _ _ (sym (c.slot_in.ensures ∙ slot-by _ _ _ c.clusters_of-staged.ensures) ∙ c.in-Some-slot_in.is))
 
 pub loop-k-preserved : goal.loop-k-preserved
 loop-k-preserved c =
-    let s = sym (c.slot_in.ensures ∙ slot-by _ _ _ c.clusters_of-staged.ensures) ∙ c.in-At.is in
-    let v = sym c.pair_of.ensures ∙ c.in-Value.is in
-    let p = place-by _ _ _ _ c.loop-k.invariant.1 _ _ s in (
-      omega (arith, c.loop-k-test.true),
-      link-by _ _ _ _ c.loop-k.invariant.1 _ v,
-      slots-more _ _ _ _ _ _ c.loop-k.invariant.2 (omega (arith, c.loop-k-test.true, c.if-n-gt-NST.false)) p,
-      all-go _ _ _ _ c.loop-k.invariant.3 c.loop-k-test.true
-          (it-fits _ _ _ _ _ _ c.loop-k.invariant.1 _ _ v s
-          (sym (repeated-by _ _ _ _ _ _ c.loop-k.invariant.2 p) ∙ sym c.is_repeated.ensures ∙ c.if-is_repeated.false)
+    let s = sym (c.slot_in.ensures ∙ slot-by _ _ _ c.clusters_of-staged.ensures) ∙ c.in-Some-slot_in.is in
+    let v = sym c.pair_of.ensures ∙ c.in-Some.is in
+    let p = place-by _ _ _ _ c.loop-k.invariant.0 _ _ s in (
+      link-by _ _ _ _ c.loop-k.invariant.0 _ v,
+      slots-more _ _ _ _ _ _ c.loop-k.invariant.1 (omega (arith, c.loop-k-test.true, c.if-n-gt-NST.false)) p,
+      all-go _ _ _ _ c.loop-k.invariant.2 c.loop-k-test.true
+          (it-fits _ _ _ _ _ _ c.loop-k.invariant.0 _ _ v s
+          (sym (repeated-by _ _ _ _ _ _ c.loop-k.invariant.1 p) ∙ sym c.is_repeated.ensures ∙ c.if-is_repeated.false)
           (sym c.is_staged.ensures ∙ c.if-not-is_staged.false)),
     )
 
 pub returns-then-c-lt65528 : goal.returns-then-c-lt65528
 returns-then-c-lt65528 c =
-    let e : c.loop-k.k ≡ c.nclus-n.result = omega (arith, c.loop-k-test.false, c.loop-k.invariant.0) in
-    c.no_chain-then-c-lt65528.ensures ∙ complete-open _ _ _ _ _ c.nclus-n.ensures (rw (← e, ← c.loop-k.invariant.1) (omega (arith, c.if-c-lt65528.true)))
+    let e : c.loop-k.k ≡ c.nclus-n.result = omega (arith, c.loop-k-test.false) in
+    c.no_chain-then-c-lt65528.ensures ∙ complete-open _ _ _ _ _ c.nclus-n.ensures (rw (← e, ← c.loop-k.invariant.0) (omega (arith, c.if-c-lt65528.true)))
 
 pub returns : goal.returns
 returns c =
-    let e : c.loop-k.k ≡ c.nclus-n.result = omega (arith, c.loop-k-test.false, c.loop-k.invariant.0) in
-    complete-whole _ _ _ _ _ _ c.nclus-n.ensures c.if-n-eq0.false c.if-n-gt-NST.false (sym (all-end _ _ _ _ c.loop-k.invariant.3 c.loop-k-test.false))
-    (rw (← e, ← c.loop-k.invariant.1) (omega (arith, c.if-c-lt65528.false))) (rw (← e) c.loop-k.invariant.2)
+    let e : c.loop-k.k ≡ c.nclus-n.result = omega (arith, c.loop-k-test.false) in
+    complete-whole _ _ _ _ _ _ c.nclus-n.ensures c.if-n-eq0.false c.if-n-gt-NST.false (sym (all-end _ _ _ _ c.loop-k.invariant.2 c.loop-k-test.false))
+    (rw (← e, ← c.loop-k.invariant.0) (omega (arith, c.if-c-lt65528.false))) (rw (← e) c.loop-k.invariant.1)

@@ -1,4 +1,4 @@
-use Prim.Native.Nat.{◌≤◌, ◌-◌}
+use Prim.Native.Nat.{◌-◌}
 use mathlib.Core.Path.{◌≡◌}
 use Rattle.loops.specs.Loops.{all}
 use Rattle.chains.specs.Walk.{link_at, fits}
@@ -7,7 +7,6 @@ use Rattle.chains.proofs.complete.Given as goal
 
 abbrev pub invariant-loop-k : goal.invariant-loop-k
 invariant-loop-k l =
-    (l.k ≤ l.n) × (l.c ≡ link_at l.pair l.start l.k) × (l.slots ≡ slots_to l.pair l.st l.start l.k) × (all (fits l.pair l.st l.start l.size) l.n 0 ≡ all (fits l.pair l.st l.start l.size) (l.n - l.k) l.k)
-
-abbrev pub decreases-loop-k : goal.decreases-loop-k
-decreases-loop-k l = l.n - l.k
+    (l.c ≡ link_at l.pair l.start l.k)
+    × (l.slots ≡ slots_to l.pair l.st l.start l.k)
+    × (all (fits l.pair l.st l.start l.size) l.n 0 ≡ all (fits l.pair l.st l.start l.size) (l.n - l.k) l.k)

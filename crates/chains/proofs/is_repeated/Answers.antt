@@ -1,19 +1,21 @@
+use Prim.Native.Nat.{ℕ, zero, suc, ◌+◌, ◌≤◌}
+use mathlib.Core.Bool.{Bool, ◌||◌}
+use mathlib.Core.Path.{◌≡◌, refl, ap, ◌∙◌}
+use mathlib.Core.List.{List}
+use lib.Dec.{eqb}
+use lib.ListN.{length, get_or, take, drop}
 use native.Mathlib.Omega.{arith}
-use borrow.Author.Tests.{eq-eqb, ne_eqb}
-use Rattle.loops.specs.Loops.{some-start, some-go, some-stop, some-end}
+use Rattle.std.specs.List.{list_any}
+use Rattle.std.proofs.Common.{add-one, drop-cons}
+use Rattle.loops.specs.Loops.{some}
 use Rattle.chains.proofs.is_repeated.Goals as goal
 
-pub loop-j-init : goal.loop-j-init
-loop-j-init c = some-start _ _
-
-pub bounds-slots-j : goal.bounds-slots-j
-bounds-slots-j c = omega (arith, c.requires)
-
-pub returns-then-slots-j : goal.returns-then-slots-j
-returns-then-slots-j c = some-stop _ _ _ _ c.loop-j.invariant (omega arith) (eq-eqb _ _ c.if-slots-j.true)
-
-pub loop-j-preserved : goal.loop-j-preserved
-loop-j-preserved c = some-go _ _ _ _ c.loop-j.invariant (omega arith) (ne_eqb _ _ c.if-slots-j.false)
+-- an answer over a part of a list is one over the numbers of its places
+any-some : (p : ℕ → Bool) (xs : List ℕ) (k i : ℕ) → i + k ≤ length xs → list_any p (take k (drop i xs)) ≡ some (λ j. p (get_or xs j 0)) k i
+unfolding some
+any-some p xs zero i h = refl
+any-some p xs (suc k) i h =
+    rw (drop-cons xs i 0 (omega arith), ← add-one i) (ap (λ (b : Bool). p (get_or xs i 0) || b) (any-some p xs k (i + 1) (omega arith)))
 
 pub returns : goal.returns
-returns c = some-end _ _ _ _ c.loop-j.invariant (omega arith)
+returns c = c.contains.ensures.value ∙ any-some (λ y. eqb y c.args.i) c.args.slots c.args.k 0 (omega arith)

@@ -1,5 +1,6 @@
 use mathlib.Core.Path.{sym, ◌∙◌}
 use Rattle.clusters.specs.Clusters.{is_live}
+use Rattle.clusters.proofs.Nothing.{nothing-of}
 use Rattle.clusters.proofs.ours_live.Goals as goal
 
 pub returns-then-test_u16 : goal.returns-then-test_u16
@@ -8,4 +9,4 @@ returns-then-test_u16 c = simp (sym c.test_u16.ensures ∙ c.if-test_u16.true)
 
 pub returns : goal.returns
 unfolding is_live
-returns c = simp (sym c.test_u16.ensures ∙ c.if-test_u16.false, ← c.pair_idx.ensures) c.is_nothing.ensures
+returns c = simp (sym c.test_u16.ensures ∙ c.if-test_u16.false, ← c.pair_idx.ensures) (nothing-of _ _ c.is_none.ensures)

@@ -1,4 +1,4 @@
-use Prim.Native.Nat.{◌≤◌, ◌-◌}
+use Prim.Native.Nat.{◌-◌}
 use mathlib.Core.Path.{◌≡◌}
 use lib.ListN.{length}
 use mathlib.Core.Bool.{not}
@@ -7,7 +7,4 @@ use Rattle.file_table.specs.Table.{shares_place}
 use Rattle.file_table.proofs.places_apart.Given as goal
 
 abbrev pub invariant-loop-j : goal.invariant-loop-j
-invariant-loop-j l = (l.j ≤ length l.ids) × (all (λ k. not (shares_place l.ids l.slots k)) (length l.ids) 0 ≡ all (λ k. not (shares_place l.ids l.slots k)) (length l.ids - l.j) l.j)
-
-abbrev pub decreases-loop-j : goal.decreases-loop-j
-decreases-loop-j l = length l.ids - l.j
+invariant-loop-j l = all (λ k. not (shares_place l.ids l.slots k)) (length l.ids) 0 ≡ all (λ k. not (shares_place l.ids l.slots k)) (length l.ids - l.j) l.j

@@ -37,7 +37,6 @@ loop-i-preserved c =
     let l = c.loop-i in
     let lt : l.i < length c.args.files.now = omega (arith, rows-within (length c.args.files.now)) in
     record {
-      within = omega arith;
       rows = l.invariant.rows;
       ids = rw (add-one, l.invariant.ids) (over-more _ _ _ _ _ lt);
       slots = rw (add-one, l.invariant.slots) (over-more _ _ _ _ _ lt);

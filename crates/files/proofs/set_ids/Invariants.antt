@@ -1,13 +1,9 @@
-use Rattle.std.proofs.Common.{◌-◌, ◌≡◌, ◌≤◌, length, take}
+use Rattle.std.proofs.Common.{◌≡◌, length, take}
 use Rattle.files.specs.Files.{rows_taken, with_ids}
 use Rattle.files.proofs.set_ids.Given as goal
 
-abbrev pub invariant-loop-i : goal.invariant-loop-i
-invariant-loop-i l = record {
-  within : l.i ≤ l.n;
+abbrev pub invariant-loop-j : goal.invariant-loop-j
+invariant-loop-j l = record {
   rows : l.n ≡ rows_taken (length l.initial.files);
-  done : l.files ≡ with_ids l.initial.files (take l.i l.ids);
+  done : l.files ≡ with_ids l.initial.files (take l.j l.ids);
 }
-
-abbrev pub decreases-loop-i : goal.decreases-loop-i
-decreases-loop-i l = l.n - l.i

@@ -1,4 +1,4 @@
-use Prim.Native.Nat.{◌≤◌, ◌-◌}
+use Prim.Native.Nat.{◌-◌}
 use mathlib.Core.Path.{◌≡◌}
 use Rattle.loops.specs.Loops.{some}
 use Rattle.slots.specs.Slots.{refers_to}
@@ -6,7 +6,4 @@ use Rattle.medium.specs.Reads.{sector_of}
 use Rattle.medium.proofs.reads.slot_names.Given as goal
 
 abbrev pub invariant-loop-s : goal.invariant-loop-s
-invariant-loop-s l = (l.s ≤ 64) × (some (λ k. refers_to (sector_of l.fat l.area l.x k) l.start l.size) 64 0 ≡ some (λ k. refers_to (sector_of l.fat l.area l.x k) l.start l.size) (64 - l.s) l.s)
-
-abbrev pub decreases-loop-s : goal.decreases-loop-s
-decreases-loop-s l = 64 - l.s
+invariant-loop-s l = some (λ k. refers_to (sector_of l.fat l.area l.x k) l.start l.size) 64 0 ≡ some (λ k. refers_to (sector_of l.fat l.area l.x k) l.start l.size) (64 - l.s) l.s

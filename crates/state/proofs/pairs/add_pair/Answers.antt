@@ -10,11 +10,11 @@ unfolding add_at
 returns-in_default c = simp (sym c.free_pair.ensures ∙ c.in_default.is)
 
 pub offset_bounds-w-i : goal.offset_bounds-w-i
-offset_bounds-w-i c = omega (arith, free_pair-lt _ _ (sym c.free_pair.ensures ∙ c.in-At.is))
+offset_bounds-w-i c = omega (arith, free_pair-lt _ _ (sym c.free_pair.ensures ∙ c.in-Some.is))
 
 pub bounds-w-i : goal.bounds-w-i
-bounds-w-i c = free_pair-lt _ _ (sym c.free_pair.ensures ∙ c.in-At.is)
+bounds-w-i c = free_pair-lt _ _ (sym c.free_pair.ensures ∙ c.in-Some.is)
 
 pub returns : goal.returns
 unfolding add_at with_pair
-returns c = simp (sym c.free_pair.ensures ∙ c.in-At.is)
+returns c = simp (sym c.free_pair.ensures ∙ c.in-Some.is)

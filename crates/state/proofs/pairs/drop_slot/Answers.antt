@@ -10,11 +10,11 @@ unfolding drop_at
 returns-in_default c = simp (sym c.slot_of.ensures ∙ c.in_default.is)
 
 pub offset_bounds-w-k : goal.offset_bounds-w-k
-offset_bounds-w-k c = omega (arith, slot_of-lt _ _ _ (sym c.slot_of.ensures ∙ c.in-At.is))
+offset_bounds-w-k c = omega (arith, slot_of-lt _ _ _ (sym c.slot_of.ensures ∙ c.in-Some.is))
 
 pub bounds-w-k : goal.bounds-w-k
-bounds-w-k c = slot_of-lt _ _ _ (sym c.slot_of.ensures ∙ c.in-At.is)
+bounds-w-k c = slot_of-lt _ _ _ (sym c.slot_of.ensures ∙ c.in-Some.is)
 
 pub returns : goal.returns
 unfolding drop_at with_st
-returns c = simp (sym c.slot_of.ensures ∙ c.in-At.is)
+returns c = simp (sym c.slot_of.ensures ∙ c.in-Some.is)

@@ -15,27 +15,27 @@ unfolding set_pair set_at
 returns-in_default c = simp (sym c.pair_idx.ensures ∙ c.in_default.is, ne_eqb _ _ c.if-v-eq0.false) c.add_pair.ensures
 
 pub offset_bounds-w-i : goal.offset_bounds-w-i
-offset_bounds-w-i c = omega (arith, pair_idx-lt _ _ _ (sym c.pair_idx.ensures ∙ c.in-At.is))
+offset_bounds-w-i c = omega (arith, pair_idx-lt _ _ _ (sym c.pair_idx.ensures ∙ c.in-Some.is))
 
 pub bounds-w-i : goal.bounds-w-i
-bounds-w-i c = pair_idx-lt _ _ _ (sym c.pair_idx.ensures ∙ c.in-At.is)
+bounds-w-i c = pair_idx-lt _ _ _ (sym c.pair_idx.ensures ∙ c.in-Some.is)
 
 pub returns-then-v-eq0-2 : goal.returns-then-v-eq0-2
 unfolding set_pair set_at with_pair
-returns-then-v-eq0-2 c = simp (sym c.pair_idx.ensures ∙ c.in-At.is, eq-eqb _ _ c.if-v-eq0-2.true) c.drop_slot.ensures
+returns-then-v-eq0-2 c = simp (sym c.pair_idx.ensures ∙ c.in-Some.is, eq-eqb _ _ c.if-v-eq0-2.true) c.drop_slot.ensures
 
 pub offset_bounds-pair-i : goal.offset_bounds-pair-i
-offset_bounds-pair-i c = omega (arith, pair_idx-lt _ _ _ (sym c.pair_idx.ensures ∙ c.in-At.is))
+offset_bounds-pair-i c = omega (arith, pair_idx-lt _ _ _ (sym c.pair_idx.ensures ∙ c.in-Some.is))
 
 pub bounds-pair-i : goal.bounds-pair-i
-bounds-pair-i c = pair_idx-lt _ _ _ (sym c.pair_idx.ensures ∙ c.in-At.is)
+bounds-pair-i c = pair_idx-lt _ _ _ (sym c.pair_idx.ensures ∙ c.in-Some.is)
 
 pub offset_bounds-w-i-2 : goal.offset_bounds-w-i-2
-offset_bounds-w-i-2 c = omega (arith, pair_idx-lt _ _ _ (sym c.pair_idx.ensures ∙ c.in-At.is))
+offset_bounds-w-i-2 c = omega (arith, pair_idx-lt _ _ _ (sym c.pair_idx.ensures ∙ c.in-Some.is))
 
 pub bounds-w-i-2 : goal.bounds-w-i-2
-bounds-w-i-2 c = pair_idx-lt _ _ _ (sym c.pair_idx.ensures ∙ c.in-At.is)
+bounds-w-i-2 c = pair_idx-lt _ _ _ (sym c.pair_idx.ensures ∙ c.in-Some.is)
 
 pub returns : goal.returns
 unfolding set_pair set_at with_pair
-returns c = simp (sym c.pair_idx.ensures ∙ c.in-At.is, ne_eqb _ _ c.if-v-eq0-2.false)
+returns c = simp (sym c.pair_idx.ensures ∙ c.in-Some.is, ne_eqb _ _ c.if-v-eq0-2.false)

@@ -1,18 +1,7 @@
-use borrow.Author.Tests.{eq-eqb, ne_eqb}
-use Rattle.loops.specs.Loops.{count-start, count-yes, count-no, count-end}
+use Rattle.state.specs.State.{no_st}
 use Rattle.state.specs.Staged.{free_slots}
-use native.Mathlib.Omega.{arith}
 use Rattle.state.proofs.staged.free_slots.Goals as goal
-
-pub loop-i-init : goal.loop-i-init
-loop-i-init c = (omega arith, omega arith, count-start _ _)
-
-pub loop-i-preserved-then-s-eq0 : goal.loop-i-preserved-then-s-eq0
-loop-i-preserved-then-s-eq0 c = (omega arith, omega arith, count-yes _ _ _ _ _ c.loop-i.invariant.2 (omega arith) (eq-eqb _ _ c.if-s-eq0.true))
-
-pub loop-i-preserved : goal.loop-i-preserved
-loop-i-preserved c = (omega arith, omega arith, count-no _ _ _ _ _ c.loop-i.invariant.2 (omega arith) (ne_eqb _ _ c.if-s-eq0.false))
 
 pub returns : goal.returns
 unfolding free_slots
-returns c = count-end _ _ _ _ _ c.loop-i.invariant.2 (omega arith)
+returns c = c.count_free.ensures no_st

@@ -6,7 +6,4 @@ use Rattle.vdisk.specs.RisingLaws.{falls_at}
 use Rattle.vdisk.proofs.owner.rising.Given as goal
 
 abbrev pub invariant-loop-j : goal.invariant-loop-j
-invariant-loop-j l = (l.j ≤ length l.starts) × (l.falls ≤ l.j) × (count (falls_at l.starts) (length l.starts - 1) 0 ≡ l.falls + count (falls_at l.starts) (length l.starts - 1 - l.j) l.j)
-
-abbrev pub decreases-loop-j : goal.decreases-loop-j
-decreases-loop-j l = length l.starts - l.j
+invariant-loop-j l = (l.falls ≤ l.j) × (count (falls_at l.starts) (length l.starts - 1) 0 ≡ l.falls + count (falls_at l.starts) (length l.starts - 1 - (l.j - 1)) (l.j - 1))

@@ -1,24 +1,20 @@
-use mathlib.Core.Path.{refl}
-use Prim.Native.Nat.{◌-◌}
+use mathlib.Core.Path.{◌≡◌}
+use Prim.Native.Nat.{◌-◌, ◌+◌}
 use native.Mathlib.Omega.{arith}
 use borrow.Author.Tests.{le-leb, lt-leb}
 use Rattle.loops.specs.Loops.{last-go, last-stop, last-end}
 use Rattle.vdisk.specs.Owner.{up_to}
 use Rattle.vdisk.proofs.owner.up_to_by_rows.Goals as goal
 
-pub loop-n-init : goal.loop-n-init
-loop-n-init c = (omega arith, refl)
-
-pub overflow_cast-starts : goal.overflow_cast-starts
-overflow_cast-starts c = omega (arith, c.shared_slice_known-1.given (c.loop-n.n - 1))
-
-pub returns-then-starts-n : goal.returns-then-starts-n
+pub returns-then-starts-j : goal.returns-then-starts-j
 unfolding up_to
-returns-then-starts-n c = last-stop _ _ _ c.loop-n.invariant.1 (omega arith) (le-leb _ _ c.if-starts-n.true)
+returns-then-starts-j c =
+    let e : c.loop-j.j - 1 + 1 ≡ c.loop-j.j = omega arith in
+    rw e (last-stop _ _ _ c.loop-j.invariant (omega arith) (le-leb _ _ c.if-starts-j.true))
 
-pub loop-n-preserved : goal.loop-n-preserved
-loop-n-preserved c = (omega arith, last-go _ _ _ c.loop-n.invariant.1 (omega arith) (lt-leb _ _ c.if-starts-n.false))
+pub loop-j-preserved : goal.loop-j-preserved
+loop-j-preserved c = last-go _ _ _ c.loop-j.invariant (omega arith) (lt-leb _ _ c.if-starts-j.false)
 
 pub returns : goal.returns
 unfolding up_to
-returns c = last-end _ _ _ c.loop-n.invariant.1 (omega arith)
+returns c = last-end _ _ _ c.loop-j.invariant (omega arith)
