@@ -1,11 +1,9 @@
 -- How a written sector of a generated directory is judged (document 01, "Judging a sector").
-use Rattle.std.specs.Prelude.{ℕ, ◌+◌, ◌*◌, Bool, true, false, not, ◌&&◌, ◌||◌, List, ltb, eqb, length, get_or}
+use Rattle.std.specs.Prelude.{ℕ, ◌+◌, ◌*◌, Bool, true, false, not, ◌&&◌, ◌||◌, List, ltb, eqb, length, get_or, Option, Some, None}
 use Rattle.loops.specs.Loops.{pick, all, some}
 use Rattle.loops.specs.Found.{find}
 use Rattle.loops.specs.Rows.{rows}
 use Rattle.loops.specs.Marks.{picked_by}
-use Rattle.loops.specs.declared.Found.{Found}
-use Rattle.loops.specs.declared.Found.TheVariants.{At, Nothing}
 use Rattle.bits.specs.Bit.{set_bit}
 use Rattle.vdisk.specs.Ids.{turned, id_dir_of}
 use Rattle.slots.specs.Slots.{dates_only, turn_at}
@@ -33,16 +31,16 @@ unfoldable pub file_at : DirWrite → ℕ → ℕ → Bool
 file_at x n j = eqb (id_dir_of (get_or x.ids j 0)) x.k && eqb (get_or x.slots j 0) n && not (turned (get_or x.ids j 0))
 
 -- the first such row
-unfoldable pub row_of : DirWrite → ℕ → Found
+unfoldable pub row_of : DirWrite → ℕ → Option ℕ
 row_of x n = find (file_at x n) (length x.ids)
 
 -- the file that slot i of the sector turns: a turn (0xE5, dates besides) of an unturned file of that directory and slot
-unfoldable pub turned_by : DirWrite → ℕ → Found
-turned_by x i = pick (ltb x.k 3 && turn_at x.shown x.written (i * 32)) (row_of x (x.s * 16 + i)) Nothing
+unfoldable pub turned_by : DirWrite → ℕ → Option ℕ
+turned_by x i = pick (ltb x.k 3 && turn_at x.shown x.written (i * 32)) (row_of x (x.s * 16 + i)) None
 
-unfoldable pub is_found : Found → Bool
-is_found (At j) = true
-is_found Nothing = false
+unfoldable pub is_found : Option ℕ → Bool
+is_found (Some j) = true
+is_found None = false
 
 -- dates are dropped; a turn passes; anything else is 9
 unfoldable pub slot_passes : DirWrite → ℕ → Bool

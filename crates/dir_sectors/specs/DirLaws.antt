@@ -1,5 +1,5 @@
 -- What the code of a directory sector gathers, and its laws.
-use Rattle.std.specs.Prelude.{ℕ, suc, ◌+◌, ◌*◌, ◌<◌, ◌≤◌, Bool, not, ◌&&◌, ◌||◌, List, ◌++◌, ◌≡◌, ltb, eqb, length, take, drop}
+use Rattle.std.specs.Prelude.{ℕ, suc, ◌+◌, ◌*◌, ◌<◌, ◌≤◌, Bool, not, ◌&&◌, ◌||◌, List, ◌++◌, ◌≡◌, ltb, eqb, length, take, drop, Some, None}
 use Rattle.std.proofs.Math.Bool.{true, false}
 use Rattle.std.proofs.Math.Path.{refl}
 use Rattle.std.proofs.Common.{sym, ◌∙◌, ap, add-one, drop-cons, take-suc}
@@ -13,7 +13,6 @@ use Rattle.loops.specs.Facts.{all-at, all-of}
 use Rattle.loops.specs.Found.{find, find-lt}
 use Rattle.loops.specs.Rows.{rows as rows_of, rows-at, rows-length, rows-same}
 use Rattle.loops.specs.Marks.{Marks, marked}
-use Rattle.loops.specs.declared.Found.TheVariants.{At, Nothing}
 use Rattle.bits.specs.Bit.{set_bit}
 use Rattle.file_table.specs.Table.{max_files}
 use Rattle.vdisk.specs.Ids.{id_dir_of}
@@ -41,11 +40,11 @@ unfolding file_at
 other-slot x n j h = rw (ne_eqb (get_or x.slots j 0) n h, and-no (eqb (id_dir_of (get_or x.ids j 0)) x.k) false refl)
 
 -- a slot that turns a file passes; one that turns none passes by its dates
-pub turn-passes : (x : DirWrite) (i j : ℕ) → turned_by x i ≡ At j → slot_passes x i ≡ true
+pub turn-passes : (x : DirWrite) (i j : ℕ) → turned_by x i ≡ Some j → slot_passes x i ≡ true
 unfolding slot_passes is_found
 turn-passes x i j e = or-r (dates_only x.shown x.written (i * 32)) (is_found (turned_by x i)) (rw e)
 
-pub dates-pass : (x : DirWrite) (i : ℕ) → turned_by x i ≡ Nothing → slot_passes x i ≡ dates_only x.shown x.written (i * 32)
+pub dates-pass : (x : DirWrite) (i : ℕ) → turned_by x i ≡ None → slot_passes x i ≡ dates_only x.shown x.written (i * 32)
 unfolding slot_passes is_found
 dates-pass x i e = rw e (or-none (dates_only x.shown x.written (i * 32)))
   where
@@ -76,7 +75,7 @@ module _ (shown written : List ℕ) (at : ℕ) (same : same_slot shown written a
       not-and true c = refl
       not-and false c = refl
 
-pub same-turns-none : (x : DirWrite) (i : ℕ) → same_slot x.shown x.written (i * 32) ≡ true → turned_by x i ≡ Nothing
+pub same-turns-none : (x : DirWrite) (i : ℕ) → same_slot x.shown x.written (i * 32) ≡ true → turned_by x i ≡ None
 unfolding turned_by
 same-turns-none x i e =
     rw (same-turn x.shown x.written (i * 32) e, and-no (ltb x.k 3) false refl)
@@ -100,12 +99,12 @@ module _ (f : ℕ → ℕ → ℕ) (d t : List ℕ) (i : ℕ) (inv : t ≡ take 
       (sym (append_snoc (take i (rows_of f d)) (get_or (rows_of f d) i 0) (drop (suc i) d)))
 
 -- the row that a slot turns is one of the table
-pub turned_by-lt : (x : DirWrite) (i j : ℕ) → turned_by x i ≡ At j → j < length x.ids
+pub turned_by-lt : (x : DirWrite) (i j : ℕ) → turned_by x i ≡ Some j → j < length x.ids
 unfolding turned_by row_of
 turned_by-lt x i j e =
-    picked (ltb x.k 3 && turn_at x.shown x.written (i * 32)) (find (file_at x (x.s * 16 + i)) (length x.ids)) Nothing (At j) e
+    picked (ltb x.k 3 && turn_at x.shown x.written (i * 32)) (find (file_at x (x.s * 16 + i)) (length x.ids)) None (Some j) e
     (λ p q. find-lt (file_at x (x.s * 16 + i)) (length x.ids) j q)
-    (λ p (q : Nothing ≡ At j). let z : ◌≡◌ {A = ℕ} 0 1 = cc in absurd (omega arith))
+    (λ p (q : None ≡ Some j). let z : ◌≡◌ {A = ℕ} 0 1 = cc in absurd (omega arith))
 
 -- marking the rows that are marked 1 turns those that the sector turns
 pub turned-ids : (x : DirWrite) (fat area : List ℕ) (st : List St) (rows : List ℕ) → Marks (turned_by x) max_files 16 rows → length x.ids ≤ max_files

@@ -11,7 +11,6 @@ ghost use Rattle.dir_sectors.specs.Dir.{dir_write, file_at, row_of, turned_by, s
 ghost use Rattle.dir_sectors.specs.Lent.{Lent};
 
 use file_table::MAX_VF;
-use loops::Found;
 use medium::reads::moved_ref;
 use slots::dates::{dates_only, is_turn, same_slot};
 use state::w::{NST, St};
@@ -53,18 +52,16 @@ fn row_of(
     g: &[u8],
     d: &[u8],
     n: u32,
-) -> Found
+) -> Option<usize>
     requires { Lent ids.now slots.now starts.now sizes.now s g.now d.now }
     ensures { result ≡ row_of (dir_write ids.now slots.now starts.now sizes.now k s g.now d.now) n }
 {
-    let mut j = 0;
-    while j < ids.len() {
+    for j in 0..ids.len() {
         if file_at(ids, slots, starts, sizes, k, s, g, d, n, j) {
-            return Found::At(j);
+            return Some(j);
         }
-        j += 1;
     }
-    Found::Nothing
+    None
 }
 
 // The file that slot `i` of the sector turns.
@@ -78,15 +75,15 @@ fn turned_by(
     g: &[u8],
     d: &[u8],
     i: u32,
-) -> Found
+) -> Option<usize>
     requires { Lent ids.now slots.now starts.now sizes.now s g.now d.now × (i < 16) }
     ensures { result ≡ turned_by (dir_write ids.now slots.now starts.now sizes.now k s g.now d.now) i }
 {
     if 3 <= k {
-        return Found::Nothing;
+        return None;
     }
     if !is_turn(g, d, i as usize * 32) {
-        return Found::Nothing;
+        return None;
     }
     row_of(ids, slots, starts, sizes, k, s, g, d, s * 16 + i)
 }
@@ -115,19 +112,16 @@ fn slot_turns(
 {
     let mut rows = [0u8; MAX_VF];
     let mut any = false;
-    let mut i = 0;
-    while i < 16 {
+    for i in 0..16 {
         if same_slot(g, d, i as usize * 32) {
-            i += 1;
             continue;
         }
         match turned_by(ids, slots, starts, sizes, k, s, g, d, i) {
-            Found::At(j) => {
+            Some(j) => {
                 rows[j] = 1;
                 any = true;
-                i += 1;
             }
-            Found::Nothing => {
+            None => {
                 if !dates_only(g, d, i as usize * 32) {
                     return Turns {
                         no: 9,
@@ -135,7 +129,6 @@ fn slot_turns(
                         rows: rows,
                     };
                 }
-                i += 1;
             }
         }
     }
@@ -170,14 +163,10 @@ fn mark_rows(
     requires { (length ids.old ≤ length rows.now) × (length starts.now ≡ length ids.old) × (length sizes.now ≡ length ids.old) }
     ensures { ids.new ≡ rows_of (mark_id rows.now starts.now sizes.now fat.now area.now st) ids.old }
 {
-    let mut j = 0;
-    while j < ids.len() {
+    for j in 0..ids.len() {
         if rows[j] == 1 {
             let id = turned_id(ids[j], moved_ref(fat, area, st, starts[j], sizes[j]));
             ids[j] = id;
-            j += 1;
-        } else {
-            j += 1;
         }
     }
 }

@@ -1,10 +1,8 @@
 -- How a written FAT sector is judged (document 01, "Judging a sector").
-use Rattle.std.specs.Prelude.{ℕ, ◌+◌, ◌*◌, Bool, false, not, ◌&&◌, ◌||◌, List, ltb, eqb}
+use Rattle.std.specs.Prelude.{ℕ, ◌+◌, ◌*◌, Bool, false, not, ◌&&◌, ◌||◌, List, ltb, eqb, Option, Some, None}
 use Rattle.loops.specs.Loops.{pick, all, first, count, fold}
 use Rattle.loops.specs.Rows.{rows}
 use Rattle.loops.specs.Marks.{picked_by}
-use Rattle.loops.specs.declared.Found.{Found}
-use Rattle.loops.specs.declared.Found.TheVariants.{At, Nothing}
 use Rattle.bits.specs.Bit.{set_bit}
 use Rattle.sector.specs.Bytes.{word}
 use Rattle.vdisk.specs.Owner.{owner_of}
@@ -89,14 +87,14 @@ fat_number x =
     (pick (ltb (free_pairs x.pairs) (count (needs_pair x) 256 0)) 14 0)
 
 -- the file that a changed entry frees: a live file's
-unfoldable pub freed_own : FatWrite → ℕ → Own → Found
-freed_own x i Reserved = Nothing
-freed_own x i Fixed = Nothing
-freed_own x i (Dyn j) = pick (is_live x.ids x.pairs j (cluster_at x i)) (At j) Nothing
-freed_own x i Free = Nothing
+unfoldable pub freed_own : FatWrite → ℕ → Own → Option ℕ
+freed_own x i Reserved = None
+freed_own x i Fixed = None
+freed_own x i (Dyn j) = pick (is_live x.ids x.pairs j (cluster_at x i)) (Some j) None
+freed_own x i Free = None
 
-unfoldable pub freed_by : FatWrite → ℕ → Found
-freed_by x i = pick (changed_at x i) (freed_own x i (owner_at x i)) Nothing
+unfoldable pub freed_by : FatWrite → ℕ → Option ℕ
+freed_by x i = pick (changed_at x i) (freed_own x i (owner_at x i)) None
 
 -- row j is freed by this sector
 unfoldable pub frees_row : FatWrite → ℕ → Bool

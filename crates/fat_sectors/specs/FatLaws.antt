@@ -1,5 +1,5 @@
 -- Laws of a written FAT sector.
-use Rattle.std.specs.Prelude.{ℕ, ◌+◌, ◌-◌, ◌*◌, ◌<◌, ◌≤◌, min, max, Bool, false, ◌&&◌, ◌||◌, List, refl, leb, length}
+use Rattle.std.specs.Prelude.{ℕ, ◌+◌, ◌-◌, ◌*◌, ◌<◌, ◌≤◌, min, max, Bool, false, ◌&&◌, ◌||◌, List, refl, leb, length, Some, None}
 use Rattle.std.proofs.Math.Bool.{true, not}
 use Rattle.std.proofs.Math.Path.{◌≡◌}
 use Rattle.std.proofs.Common.{ap}
@@ -12,7 +12,6 @@ use Rattle.loops.specs.Choices.{either, picked, same-if, and-0, and-1, or-by, or
 use Rattle.loops.specs.Facts.{all-at, all-of}
 use Rattle.loops.specs.Rows.{rows as rows_of, rows-same}
 use Rattle.loops.specs.Marks.{Marks, marked}
-use Rattle.loops.specs.declared.Found.TheVariants.{At, Nothing}
 use Rattle.bits.specs.Bit.{set_bit}
 use Rattle.sector.specs.Bytes.{word}
 use Rattle.vdisk.specs.Drive.{clusters_of}
@@ -86,26 +85,26 @@ module _ (x : FatWrite) (i : ℕ) (same : changed_at x i ≡ false) where
   unfolding needs_pair
   same-needs = rw same
 
-  pub same-frees : freed_by x i ≡ Nothing
+  pub same-frees : freed_by x i ≡ None
   unfolding freed_by
   same-frees = rw same
 
-freed_own-is : (x : FatWrite) (i j : ℕ) (o : Own) → freed_own x i o ≡ At j → o ≡ Dyn j
+freed_own-is : (x : FatWrite) (i j : ℕ) (o : Own) → freed_own x i o ≡ Some j → o ≡ Dyn j
 unfolding freed_own
-freed_own-is x i j Reserved = λ (e : Nothing ≡ At j). let z : ◌≡◌ {A = ℕ} 0 1 = cc in absurd (omega arith)
-freed_own-is x i j Fixed = λ (e : Nothing ≡ At j). let z : ◌≡◌ {A = ℕ} 0 1 = cc in absurd (omega arith)
+freed_own-is x i j Reserved = λ (e : None ≡ Some j). let z : ◌≡◌ {A = ℕ} 0 1 = cc in absurd (omega arith)
+freed_own-is x i j Fixed = λ (e : None ≡ Some j). let z : ◌≡◌ {A = ℕ} 0 1 = cc in absurd (omega arith)
 freed_own-is x i j (Dyn k) =
-    λ e. picked (is_live x.ids x.pairs k (cluster_at x i)) (At k) Nothing (At j) e
-    (λ p (q : At k ≡ At j). let w : k ≡ j = cc in ap Dyn w)
-    (λ p (q : Nothing ≡ At j). let z : ◌≡◌ {A = ℕ} 0 1 = cc in absurd (omega arith))
-freed_own-is x i j Free = λ (e : Nothing ≡ At j). let z : ◌≡◌ {A = ℕ} 0 1 = cc in absurd (omega arith)
+    λ e. picked (is_live x.ids x.pairs k (cluster_at x i)) (Some k) None (Some j) e
+    (λ p (q : Some k ≡ Some j). let w : k ≡ j = cc in ap Dyn w)
+    (λ p (q : None ≡ Some j). let z : ◌≡◌ {A = ℕ} 0 1 = cc in absurd (omega arith))
+freed_own-is x i j Free = λ (e : None ≡ Some j). let z : ◌≡◌ {A = ℕ} 0 1 = cc in absurd (omega arith)
 
-pub freed_by-lt : (x : FatWrite) (i j : ℕ) → freed_by x i ≡ At j → j < length x.starts
+pub freed_by-lt : (x : FatWrite) (i j : ℕ) → freed_by x i ≡ Some j → j < length x.starts
 unfolding freed_by
 freed_by-lt x i j e =
-    picked (changed_at x i) (freed_own x i (owner_at x i)) Nothing (At j) e
+    picked (changed_at x i) (freed_own x i (owner_at x i)) None (Some j) e
     (λ p q. (owner-is x.starts x.sizes x.first (cluster_at x i) j (freed_own-is x i j (owner_at x i) q)).row)
-    (λ p (q : Nothing ≡ At j). let z : ◌≡◌ {A = ℕ} 0 1 = cc in absurd (omega arith))
+    (λ p (q : None ≡ Some j). let z : ◌≡◌ {A = ℕ} 0 1 = cc in absurd (omega arith))
 
 -- marking the rows that are marked 1 marks those that the sector frees
 pub freed-ids : (x : FatWrite) (rows : List ℕ) → Marks (freed_by x) max_files 256 rows → length x.ids ≤ max_files

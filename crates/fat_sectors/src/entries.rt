@@ -8,8 +8,7 @@ ghost use Rattle.fat_sectors.specs.Values.{fat1_passes, host_value};
 ghost use Rattle.fat_sectors.specs.Fat.{fat_write, zeroes_file, host_number, entry_number, needs_pair, freed_by};
 ghost use Rattle.fat_sectors.specs.Lent.{Lent};
 
-use clusters::{is_nothing, ours_live};
-use loops::Found;
+use clusters::ours_live;
 use slots::dates::same_slot;
 use state::pairs::pair_idx;
 use state::w::{NPAIR, Pair};
@@ -103,14 +102,13 @@ fn zeroes_file(
     let start = starts[j] as u32;
     let end = start + nclus(sizes[j]);
     let base = s * 256;
-    let mut c = num::max_u32(start, base);
+    let from = num::max_u32(start, base);
     let last = num::min_u32(end, base + 256);
-    while c < last {
+    for c in from..last {
         let at = (c - base) as usize * 2;
         if sector::le16(d, at) != 0 {
             return false;
         }
-        c += 1;
     }
     true
 }
@@ -210,7 +208,7 @@ pub fn needs_pair(
     if sector::le16(d, i as usize * 2) == 0 {
         return false;
     }
-    is_nothing(pair_idx(pair, c))
+    pair_idx(pair, c).is_none()
 }
 
 // The file that entry `i` frees: a live file's.
@@ -225,23 +223,23 @@ pub fn freed_by(
     g: &[u8],
     d: &[u8],
     i: u32,
-) -> Found
+) -> Option<usize>
     requires { Lent ids.now starts.now sizes.now sorted s g.now d.now × (i < 256) }
     ensures { result ≡ freed_by (fat_write ids.now starts.now sizes.now first pair s g.now d.now) i }
 {
     if !is_changed(g, d, i) {
-        return Found::Nothing;
+        return None;
     }
     let c = s * 256 + i;
     match owner(starts, sizes, sorted, first, c) {
-        Own::Reserved => Found::Nothing,
-        Own::Fixed => Found::Nothing,
+        Own::Reserved => None,
+        Own::Fixed => None,
         Own::Dyn(j) => {
             if ours_live(ids, pair, j, c) {
-                return Found::At(j);
+                return Some(j);
             }
-            Found::Nothing
+            None
         }
-        Own::Free => Found::Nothing,
+        Own::Free => None,
     }
 }

@@ -14,7 +14,6 @@ ghost use Rattle.fat_sectors.specs.Scanned.{ScannedAs};
 use crate::entries::{entry_number, freed_by, needs_pair, next_changed};
 use crate::stores::{Store, pair_store, unused_slot};
 use file_table::MAX_VF;
-use loops::Found;
 use state::staged::slot_of;
 use state::w::{Judged, NPAIR, Pair, W};
 use vdisk::ids::FREED;
@@ -60,11 +59,11 @@ fn scan(
             continue;
         }
         match freed_by(ids, starts, sizes, sorted, first, pair, s, g, d, i) {
-            Found::At(j) => {
+            Some(j) => {
                 out.rows[j] = 1;
                 i = next_changed(g, d, i + 1);
             }
-            Found::Nothing => {
+            None => {
                 i = next_changed(g, d, i + 1);
             }
         }
@@ -132,7 +131,7 @@ fn apply_all(
             Store::Remove(k) => {
                 out.pair[k] = Pair { c: 0, v: 0 };
                 let st = out.st;
-                let Found::At(m) = slot_of(st, c) else {
+                let Some(m) = slot_of(st, c) else {
                     continue;
                 };
                 let unused = unused_slot();
@@ -157,11 +156,9 @@ fn mark_freed(ids: &mut [u16], rows: &[u8])
     requires { length ids.old ≤ length rows.now }
     ensures { ids.new ≡ rows_of (λ j id. pick (eqb (get_or rows.now j 0) 1) (set_bit id 13) id) ids.old }
 {
-    let mut j = 0;
-    while j < ids.len() {
+    for j in 0..ids.len() {
         let id = marked_id(ids[j], rows[j]);
         ids[j] = id;
-        j += 1;
     }
 }
 

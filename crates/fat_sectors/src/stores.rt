@@ -3,7 +3,6 @@ ghost use Rattle.std.specs.Prelude.{◌≡◌};
 ghost use Rattle.state.specs.State.{st0};
 ghost use Rattle.fat_sectors.specs.Stores.{StoreOf};
 
-use loops::Found;
 use state::pairs::{free_pair, pair_idx};
 use state::w::{BPC, NPAIR, Pair, St};
 
@@ -19,11 +18,11 @@ pub enum Store {
 pub fn pair_store(pair: [Pair; NPAIR], c: u16, v: u16) -> Store
     ensures { StoreOf pair c v result }
 {
-    let Found::At(i) = pair_idx(pair, c as u32) else {
+    let Some(i) = pair_idx(pair, c as u32) else {
         if v == 0 {
             return Store::Keep;
         }
-        let Found::At(k) = free_pair(pair) else {
+        let Some(k) = free_pair(pair) else {
             return Store::Keep;
         };
         return Store::Put(k);

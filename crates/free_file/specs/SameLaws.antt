@@ -1,6 +1,6 @@
 -- A FAT sector is judged with the file alone as with the whole table, where that says of each changed entry's cluster what the whole table says.
 use Prim.Native.Nat.{ℕ, zero, suc, ◌+◌, ◌-◌, ◌*◌, ◌<◌}
-use Rattle.std.specs.Prelude.{Bool, ◌&&◌, ◌≡◌, eqb, ltb, get_or, take}
+use Rattle.std.specs.Prelude.{Bool, ◌&&◌, ◌≡◌, eqb, ltb, get_or, take, Option, Some, None}
 use Rattle.std.proofs.Math.Bool.{true, false, not}
 use mathlib.Core.List.{List, [], ◌∷◌}
 use Rattle.std.proofs.Math.Path.{refl, ap, subst}
@@ -11,8 +11,6 @@ use Rattle.loops.specs.Choices.{either, pick-has}
 use Rattle.loops.specs.Facts.{first-same, count-same}
 use Rattle.loops.specs.Marks.{is_at, picked_by}
 use Rattle.loops.specs.Rows.{rows as rows_of}
-use Rattle.loops.specs.declared.Found.{Found}
-use Rattle.loops.specs.declared.Found.TheVariants.{At, Nothing}
 use Rattle.bits.specs.Bit.{set_bit}
 use Rattle.vdisk.specs.declared.owner.Own.{Own}
 use Rattle.state.specs.Pairs.{pair_idx, free_pairs, set_pair}
@@ -43,19 +41,19 @@ unfolding entry_number
 same-number x i e = rw e
 
 -- what an entry frees of the whole table, and of the file alone
-data SameFreed (f : LastFile) : Found → Found → Type 0 where
-  none : SameFreed f Nothing Nothing
-  one : (j : ℕ) → f.n ≡ suc j → SameFreed f (At j) (At 0)
+data SameFreed (f : LastFile) : Option ℕ → Option ℕ → Type 0 where
+  none : SameFreed f None None
+  one : (j : ℕ) → f.n ≡ suc j → SameFreed f (Some j) (Some 0)
 
-both : (f : LastFile) (a b c d : Found) → a ≡ c → b ≡ d → SameFreed f c d → SameFreed f a b
-both f a b c d p q s = subst (λ (z : Found). SameFreed f z b) (sym p) (subst (SameFreed f c) (sym q) s)
+both : (f : LastFile) (a b c d : Option ℕ) → a ≡ c → b ≡ d → SameFreed f c d → SameFreed f a b
+both f a b c d p q s = subst (λ (z : Option ℕ). SameFreed f z b) (sym p) (subst (SameFreed f c) (sym q) s)
 
-same-row : (f : LastFile) (j : ℕ) (a b : Found) → f.n ≡ suc j → SameFreed f a b → is_at j a ≡ is_at 0 b
+same-row : (f : LastFile) (j : ℕ) (a b : Option ℕ) → f.n ≡ suc j → SameFreed f a b → is_at j a ≡ is_at 0 b
 unfolding is_at
 same-row f j _ _ e none = refl
 same-row f j _ _ e (one k q) = eq-eqb k j (omega (arith, e, q))
 
-other-row : (f : LastFile) (m : ℕ) (a b : Found) → (f.n ≡ suc m → ⊥) → SameFreed f a b → is_at m a ≡ false
+other-row : (f : LastFile) (m : ℕ) (a b : Option ℕ) → (f.n ≡ suc m → ⊥) → SameFreed f a b → is_at m a ≡ false
 unfolding is_at
 other-row f m _ _ h none = refl
 other-row f m _ _ h (one k q) = ne_eqb k m (λ z. h (q ∙ ap suc z))
@@ -80,10 +78,10 @@ module _ (ids starts sizes : List ℕ) (f : LastFile) (first : ℕ) (pairs : Lis
   frees-own i _ _ fixed = none
   frees-own i _ _ free = none
   frees-own i _ _ (row j is) =
-      subst (λ (b : Bool). SameFreed f (pick (is_live ids pairs j (s * 256 + i)) (At j) Nothing) (pick b (At 0) Nothing)) (live-by ids starts sizes f first pairs s shown written j is (s * 256 + i))
+      subst (λ (b : Bool). SameFreed f (pick (is_live ids pairs j (s * 256 + i)) (Some j) None) (pick b (Some 0) None)) (live-by ids starts sizes f first pairs s shown written j is (s * 256 + i))
       (live (is_live ids pairs j (s * 256 + i)))
     where
-      live : (b : Bool) → SameFreed f (pick b (At j) Nothing) (pick b (At 0) Nothing)
+      live : (b : Bool) → SameFreed f (pick b (Some j) None) (pick b (Some 0) None)
       live true = one j is.at
       live false = none
 

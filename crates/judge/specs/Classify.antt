@@ -1,13 +1,11 @@
 -- How a written sector is classified (document 01, "Judging a sector").
-use Rattle.std.specs.Prelude.{ℕ, Bool, true, false, ◌||◌, List, eqb, get_or}
+use Rattle.std.specs.Prelude.{ℕ, Bool, true, false, ◌||◌, List, eqb, get_or, Option, Some, None}
 use Rattle.loops.specs.Loops.{pick, all}
 use Rattle.sector.specs.Bytes.{same, same_at}
 use Rattle.vdisk.specs.Drive.{place_of, dir_kind_of}
 use Rattle.vdisk.specs.Owner.{owner_of}
 use Rattle.vdisk.specs.declared.drive.Place.{Place}
 use Rattle.vdisk.specs.declared.drive.Place.TheVariants.{Boot, Fat, Root, Data, Outside}
-use Rattle.vdisk.specs.declared.drive.DirKind.{DirKind}
-use Rattle.vdisk.specs.declared.drive.DirKind.TheVariants.{Kind, NoDir}
 use Rattle.vdisk.specs.declared.owner.Own.{Own}
 use Rattle.vdisk.specs.declared.owner.Own.TheVariants.{Reserved, Fixed, Dyn, Free}
 use Rattle.state.specs.Setters.{with_boot}
@@ -107,9 +105,9 @@ abbrev pub outcome_of : Staged → Outcome
 outcome_of r = record { number = r.number; changed = r.changed; w = r.w; ids = r.ids; area = r.area }
 
 -- A host cluster (Free, or in a file and not live) is staged.
-unfoldable pub cluster : SectorWrite → W → ℕ → ℕ → DirKind → Outcome
-cluster x w c s (Kind k) = unless_shown x w (dir x w k s)
-cluster x w c s NoDir =
+unfoldable pub cluster : SectorWrite → W → ℕ → ℕ → Option ℕ → Outcome
+cluster x w c s (Some k) = unless_shown x w (dir x w k s)
+cluster x w c s None =
     pick (host_cluster x.ids x.starts x.sizes w.first w.pair c) (outcome_of (stage (stage_of x c s) w)) (unless_shown x w (other_data x w c))
 
 unfoldable pub at_place : SectorWrite → W → Place → Outcome

@@ -1,5 +1,5 @@
 -- Laws of places, and of what was found to fit.
-use Rattle.std.specs.Prelude.{ℕ, ◌+◌, ◌-◌, ◌/◌, ◌%◌, ◌<◌, Bool, false, ◌&&◌, List, ◌≡◌, leb, eqb, get_or}
+use Rattle.std.specs.Prelude.{ℕ, ◌+◌, ◌-◌, ◌/◌, ◌%◌, ◌<◌, Bool, false, ◌&&◌, List, ◌≡◌, leb, eqb, get_or, Option, Some, None}
 use Rattle.std.proofs.Math.Bool.{true}
 use Rattle.std.proofs.Math.Path.{refl}
 use Rattle.std.proofs.Common.{arith}
@@ -10,8 +10,6 @@ use Rattle.loops.specs.Choices.{either, pick-by, and-0, and-1, and-of}
 use Rattle.vdisk.specs.Drive.{total, place_of}
 use Rattle.vdisk.specs.declared.drive.Place.{Place}
 use Rattle.vdisk.specs.declared.drive.Place.TheVariants.{Boot, Fat, Root, Data, Outside}
-use Rattle.vdisk.specs.declared.drive.DirKind.{DirKind}
-use Rattle.vdisk.specs.declared.drive.DirKind.TheVariants.{Kind, NoDir}
 use Rattle.sector.specs.Bytes.{same}
 use Rattle.state.specs.Setters.{with_boot}
 use Rattle.state.specs.declared.w.W.{W}
@@ -124,8 +122,8 @@ module _ (x : SectorWrite) (w : W) where
 
 -- a cluster's sector is told by cluster and sector alone
 module _ (a b : ℕ) (shown written : List ℕ) (busy : Bool) (fat area ids slots starts sizes : List ℕ) (w : W) (c s : ℕ) where
-  pub cluster-place : (k : DirKind)
+  pub cluster-place : (k : Option ℕ)
       → cluster (sector_write a shown written busy fat area ids slots starts sizes) w c s k ≡ cluster (sector_write b shown written busy fat area ids slots starts sizes) w c s k
   unfolding cluster unless_shown dir other_data
-  cluster-place (Kind k) = refl
-  cluster-place NoDir = refl
+  cluster-place (Some k) = refl
+  cluster-place None = refl

@@ -24,12 +24,10 @@ pub fn boot_passes(g: &[u8], d: &[u8]) -> bool
     requires { (length g.now ≡ 512) × (length d.now ≡ 512) }
     ensures { result ≡ boot_passes g.now d.now }
 {
-    let mut i = 0;
-    while i < 512 {
+    for i in 0..512 {
         if !byte_passes(g, d, i) {
             return false;
         }
-        i += 1;
     }
     true
 }

@@ -1,7 +1,6 @@
 // `classify`: each written sector by its place.
-ghost use Rattle.std.specs.Prelude.{◌≡◌, ◌<◌};
+ghost use Rattle.std.specs.Prelude.{◌≡◌, ◌<◌, None};
 ghost use Rattle.vdisk.specs.Drive.{dir_kind_of};
-ghost use Rattle.vdisk.specs.declared.drive.DirKind.TheVariants.{NoDir};
 ghost use Rattle.judge.specs.Classify.{sector_write, cluster as cluster_of, classify as classified};
 ghost use Rattle.judge.specs.Lent.{Lent};
 
@@ -9,7 +8,7 @@ use crate::places::{boot_place, data_number, fat_place, root_place};
 use clusters::host_cluster;
 use stage::stage;
 use state::w::{Judged, W};
-use vdisk::drive::{DirKind, Place, dir_kind, place_of};
+use vdisk::drive::{Place, dir_kind, place_of};
 use vdisk::owner::rising;
 
 // A sector of a cluster that is no directory: staged in a host cluster, else 5 or 13.
@@ -28,11 +27,11 @@ fn file_cluster(
     area: &mut [u8],
 ) -> Judged
     requires { Lent ids.old slots.now starts.now sizes.now g.now d.now × (c < 65536) × (s < 64) }
-    ensures number { result.no ≡ (cluster_of (sector_write 0 g.now d.now busy fat.now area.old ids.old slots.now starts.now sizes.now) w c s NoDir).number }
-    ensures changed { result.changed ≡ (cluster_of (sector_write 0 g.now d.now busy fat.now area.old ids.old slots.now starts.now sizes.now) w c s NoDir).changed }
-    ensures state { result.w ≡ (cluster_of (sector_write 0 g.now d.now busy fat.now area.old ids.old slots.now starts.now sizes.now) w c s NoDir).w }
-    ensures table { ids.new ≡ (cluster_of (sector_write 0 g.now d.now busy fat.now area.old ids.old slots.now starts.now sizes.now) w c s NoDir).ids }
-    ensures medium { area.new ≡ (cluster_of (sector_write 0 g.now d.now busy fat.now area.old ids.old slots.now starts.now sizes.now) w c s NoDir).area }
+    ensures number { result.no ≡ (cluster_of (sector_write 0 g.now d.now busy fat.now area.old ids.old slots.now starts.now sizes.now) w c s None).number }
+    ensures changed { result.changed ≡ (cluster_of (sector_write 0 g.now d.now busy fat.now area.old ids.old slots.now starts.now sizes.now) w c s None).changed }
+    ensures state { result.w ≡ (cluster_of (sector_write 0 g.now d.now busy fat.now area.old ids.old slots.now starts.now sizes.now) w c s None).w }
+    ensures table { ids.new ≡ (cluster_of (sector_write 0 g.now d.now busy fat.now area.old ids.old slots.now starts.now sizes.now) w c s None).ids }
+    ensures medium { area.new ≡ (cluster_of (sector_write 0 g.now d.now busy fat.now area.old ids.old slots.now starts.now sizes.now) w c s None).area }
 {
     let sorted = rising(starts);
     let first = w.first;
@@ -77,7 +76,7 @@ fn cluster(
     ensures table { ids.new ≡ (cluster_of (sector_write 0 g.now d.now busy fat.now area.old ids.old slots.now starts.now sizes.now) w c s (dir_kind_of c)).ids }
     ensures medium { area.new ≡ (cluster_of (sector_write 0 g.now d.now busy fat.now area.old ids.old slots.now starts.now sizes.now) w c s (dir_kind_of c)).area }
 {
-    let DirKind::Kind(k) = dir_kind(c) else {
+    let Some(k) = dir_kind(c) else {
         return file_cluster(w, ids, slots, starts, sizes, c, s, g, d, busy, fat, area);
     };
     if sector::equal(g, d) {

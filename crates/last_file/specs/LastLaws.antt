@@ -13,9 +13,7 @@ use Rattle.vdisk.specs.Drive.{clusters_of, last_cluster}
 use Rattle.vdisk.specs.Owner.{up_to, owner_at, owner_of, rises}
 use Rattle.vdisk.specs.declared.owner.Own.{Own}
 use Rattle.vdisk.specs.declared.owner.Own.TheVariants.{Reserved, Fixed, Dyn, Free}
-use Rattle.state.specs.declared.w.Pair.{Pair}
-use Rattle.clusters.specs.Clusters.{is_live, host_own, host_cluster}
-use Rattle.last_file.specs.LastFile.{last_in, last_rows, last_ids, last_starts, last_sizes, decides}
+use Rattle.last_file.specs.LastFile.{last_in, last_rows, last_starts, last_sizes, decides}
 use Rattle.last_file.specs.declared.LastFile.{LastFile}
 
 -- what the whole table says, and the other, whose row 0 is row j

@@ -1,5 +1,5 @@
 -- Laws of one file's entries and slot, and of what a write and a release add.
-use Rattle.std.specs.Prelude.{ℕ, ◌+◌, ◌-◌, ◌*◌, ◌/◌, ◌%◌, min, max, Bool, ◌&&◌, ◌||◌, List, [], ◌∷◌, ◌≡◌, eqb, length}
+use Rattle.std.specs.Prelude.{ℕ, ◌+◌, ◌-◌, ◌*◌, ◌/◌, ◌%◌, min, max, Bool, ◌&&◌, ◌||◌, List, [], ◌∷◌, ◌≡◌, eqb, length, Option, Some, None}
 use Rattle.std.proofs.Math.Bool.{true, false}
 use Rattle.std.proofs.Math.Path.{refl, sym, ap}
 use Rattle.std.proofs.Common.{◌∙◌, eqb-true, eq-eqb, ne_eqb}
@@ -10,8 +10,6 @@ use Rattle.vdisk.specs.Drive.{clusters_of, place_of, dir_kind_of}
 use Rattle.vdisk.specs.Ids.{id_dir_of, unmarked}
 use Rattle.vdisk.specs.declared.drive.Place.{Place}
 use Rattle.vdisk.specs.declared.drive.Place.TheVariants.{Fat, Data}
-use Rattle.vdisk.specs.declared.drive.DirKind.{DirKind}
-use Rattle.vdisk.specs.declared.drive.DirKind.TheVariants.{Kind, NoDir}
 use Rattle.slots.specs.Slots.{turn_at, refers_to}
 use Rattle.fat_sectors.specs.Fat.{fat_write}
 use Rattle.fat_sectors.specs.FatLaws.{zeroes-range}
@@ -30,19 +28,19 @@ all_zero-range start size s sector =
 
 -- a turn goes by the file's directory and slot
 module _ (id slot start size s : ℕ) (shown written : List ℕ) where
-  pub turns-dir : (d : DirKind) (k : ℕ) → d ≡ Kind k
+  pub turns-dir : (d : Option ℕ) (k : ℕ) → d ≡ Some k
       → turns_in (file_alone id slot start size) 0 s shown written d ≡ (eqb (id_dir_of id) k && (eqb (slot / 16) s && turn_at shown written (slot % 16 * 32)))
   unfolding turns_in turned_in
   turns-dir d k e = rw e
 
-  pub turns-none : (d : DirKind) → d ≡ NoDir → turns_in (file_alone id slot start size) 0 s shown written d ≡ false
+  pub turns-none : (d : Option ℕ) → d ≡ None → turns_in (file_alone id slot start size) 0 s shown written d ≡ false
   unfolding turns_in
   turns-none d e = rw e
 
-  turns-place : (d : DirKind) → turns_in (file_alone id slot start size) 0 s shown written d ≡ turns_in (file_alone id slot 0 0) 0 s shown written d
+  turns-place : (d : Option ℕ) → turns_in (file_alone id slot start size) 0 s shown written d ≡ turns_in (file_alone id slot 0 0) 0 s shown written d
   unfolding turns_in turned_in
-  turns-place (Kind k) = refl
-  turns-place NoDir = refl
+  turns-place (Some k) = refl
+  turns-place None = refl
 
 module _ (start size : ℕ) (written : List ℕ) (staged turned moved : Bool) where
   pub moved-was : moved ≡ true → true ≡ moved_then start size written staged turned moved

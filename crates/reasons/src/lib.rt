@@ -7,7 +7,7 @@ ghost use Rattle.vdisk.specs.Drive.{dir_kind_of};
 ghost use Rattle.marks.specs.Seen.{turns_in, all_zero, zeroes_in};
 ghost use Rattle.reasons.specs.Reasons.{file_alone, no_reason, with_seen, moved_then, after_write, after_end, after_gone};
 
-use vdisk::drive::{DirKind, Place, dir_kind, nclus, place_of};
+use vdisk::drive::{Place, dir_kind, nclus, place_of};
 use vdisk::ids::{id_dir, is_unmarked};
 
 // What the calls held of one file since the start, or since the completed release that last left it unmarked: a turn of its slot, its
@@ -42,7 +42,7 @@ fn turns(id: u16, slot: u16, c: u32, s: u32, shown: &[u8], written: &[u8]) -> bo
     ensures { result ≡ turns_in (file_alone id slot 0 0) 0 s shown.now written.now (dir_kind_of c) }
 {
     match dir_kind(c) {
-        DirKind::Kind(k) => {
+        Some(k) => {
             if id_dir(id) != k {
                 return false;
             }
@@ -51,7 +51,7 @@ fn turns(id: u16, slot: u16, c: u32, s: u32, shown: &[u8], written: &[u8]) -> bo
             }
             slots::dates::is_turn(shown, written, slot as usize % 16 * 32)
         }
-        DirKind::NoDir => false,
+        None => false,
     }
 }
 
@@ -63,14 +63,13 @@ fn all_zero(start: u16, size: u32, s: u32, sector: &[u8]) -> bool
     let first = start as u32;
     let end = first + nclus(size);
     let base = s * 256;
-    let mut c = num::max_u32(first, base);
+    let from = num::max_u32(first, base);
     let last = num::min_u32(end, base + 256);
-    while c < last {
+    for c in from..last {
         let at = (c - base) as usize * 2;
         if sector::le16(sector, at) != 0 {
             return false;
         }
-        c += 1;
     }
     true
 }

@@ -1,9 +1,7 @@
 -- The records that a root sector leaves, by themselves: of the state it changes nothing else.
-use Rattle.std.specs.Prelude.{ℕ, zero, suc, ◌+◌, ◌*◌, Bool, true, false, not, ◌&&◌, List, ◌≡◌, refl, leb, eqb, take, drop, set}
+use Rattle.std.specs.Prelude.{ℕ, zero, suc, ◌+◌, ◌*◌, Bool, true, false, not, ◌&&◌, List, ◌≡◌, refl, leb, eqb, take, drop, set, Option, Some, None}
 use Rattle.std.proofs.Common.{ap, ◌∙◌}
 use Rattle.loops.specs.Loops.{pick, fold}
-use Rattle.loops.specs.declared.Found.{Found}
-use Rattle.loops.specs.declared.Found.TheVariants.{At, Nothing}
 use Rattle.slots.specs.Slots.{same_slot}
 use Rattle.records.specs.Records.{rec_idx}
 use Rattle.records.specs.declared.Rec.{Rec}
@@ -12,9 +10,9 @@ use Rattle.state.specs.declared.w.W.{W}
 use Rattle.root_sectors.specs.Root.{RootWrite, root_number, place_of, put_at, keep_slot, root_state}
 
 -- a record put into its place
-unfoldable pub put_in : List Rec → Rec → Found → List Rec
-put_in recs r (At k) = set recs k r
-put_in recs r Nothing = recs
+unfoldable pub put_in : List Rec → Rec → Option ℕ → List Rec
+put_in recs r (Some k) = set recs k r
+put_in recs r None = recs
 
 -- slot i as written is kept there
 unfoldable pub kept_in : ℕ → List ℕ → ℕ → List Rec → List Rec
@@ -31,10 +29,10 @@ same-rec : (w : W) → w ≡ with_rec w w.rec
 unfolding with_rec
 same-rec w = refl
 
-put-in : (w : W) (r : Rec) (f : Found) → put_at w r f ≡ with_rec w (put_in w.rec r f)
+put-in : (w : W) (r : Rec) (f : Option ℕ) → put_at w r f ≡ with_rec w (put_in w.rec r f)
 unfolding put_at put_in
-put-in w r (At k) = refl
-put-in w r Nothing = same-rec w
+put-in w r (Some k) = refl
+put-in w r None = same-rec w
 
 keep-rec : (s : ℕ) (shown written : List ℕ) (i : ℕ) (w : W) → keep_slot s shown written i w ≡ with_rec w (keep_rec s shown written i w.rec)
 unfolding keep_slot keep_rec kept_in

@@ -1,8 +1,6 @@
 -- How a written root sector is judged (document 01, "Judging a sector").
-use Rattle.std.specs.Prelude.{ℕ, ◌+◌, ◌*◌, Bool, not, ◌&&◌, ◌||◌, List, leb, ltb, eqb, take, drop, set}
+use Rattle.std.specs.Prelude.{ℕ, ◌+◌, ◌*◌, Bool, not, ◌&&◌, ◌||◌, List, leb, ltb, eqb, take, drop, set, Option, Some, None}
 use Rattle.loops.specs.Loops.{pick, some, first, count, fold}
-use Rattle.loops.specs.declared.Found.{Found}
-use Rattle.loops.specs.declared.Found.TheVariants.{At, Nothing}
 use Rattle.slots.specs.Slots.{start_of, same_slot, dates_only}
 use Rattle.records.specs.Records.{rec_idx, free_rec, free_recs}
 use Rattle.records.specs.declared.Rec.{Rec}
@@ -74,13 +72,13 @@ root_number x =
     (pick (ltb (free_recs x.recs) (count (needs_rec x) 16 0)) 15 0)
 
 -- the place of root slot n: its record, else the first free place
-unfoldable pub place_of : List Rec → Found → Found
-place_of recs (At k) = At k
-place_of recs Nothing = free_rec recs
+unfoldable pub place_of : List Rec → Option ℕ → Option ℕ
+place_of recs (Some k) = Some k
+place_of recs None = free_rec recs
 
-unfoldable pub put_at : W → Rec → Found → W
-put_at w r (At k) = with_rec w (set w.rec k r)
-put_at w r Nothing = w
+unfoldable pub put_at : W → Rec → Option ℕ → W
+put_at w r (Some k) = with_rec w (set w.rec k r)
+put_at w r None = w
 
 -- slot i as written is kept there
 unfoldable pub keep_slot : ℕ → List ℕ → List ℕ → ℕ → W → W

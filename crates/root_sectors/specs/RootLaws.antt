@@ -1,12 +1,10 @@
 -- Laws of a written root sector.
-use Rattle.std.specs.Prelude.{ℕ, ◌<◌, ◌≤◌, ◌+◌, ◌-◌, ◌*◌, Bool, true, false, not, ◌&&◌, ◌||◌, List, ◌≡◌, refl, leb}
+use Rattle.std.specs.Prelude.{ℕ, ◌<◌, ◌≤◌, ◌+◌, ◌-◌, ◌*◌, Bool, true, false, not, ◌&&◌, ◌||◌, List, ◌≡◌, refl, leb, Option, Some, None}
 use Rattle.std.proofs.Common.{sym, ap, ◌∙◌}
 use Rattle.std.proofs.lemmas.Bool.{not-false}
 use Rattle.loops.specs.Loops.{first, first-start, first-go, some, some-start, some-go, some-stop, some-end, count, count-start, count-no, fold, fold-start, fold-go}
 use Rattle.loops.specs.Choices.{or-r}
 use Rattle.loops.specs.Found.{find-lt}
-use Rattle.loops.specs.declared.Found.{Found}
-use Rattle.loops.specs.declared.Found.TheVariants.{At, Nothing}
 use Rattle.records.specs.Records.{max_records, rec_idx, free_here, free_rec}
 use Rattle.records.specs.RecordLaws.{rec_idx-lt}
 use Rattle.records.specs.declared.Rec.{Rec}
@@ -16,13 +14,13 @@ use Rattle.root_sectors.specs.Root.{RootWrite, changed_slot, place_of, slot_numb
 use Rattle.root_sectors.specs.Records.{kept_in, keep_rec}
 use Rattle.loops.specs.Skips.{skips}
 
-place-by : (recs : List Rec) (i : ℕ) (f : Found) → ((j : ℕ) → f ≡ At j → j < max_records) → place_of recs f ≡ At i → i < max_records
+place-by : (recs : List Rec) (i : ℕ) (f : Option ℕ) → ((j : ℕ) → f ≡ Some j → j < max_records) → place_of recs f ≡ Some i → i < max_records
 unfolding place_of free_rec
-place-by recs i (At k) g e = g i e
-place-by recs i Nothing g e = find-lt (free_here recs) max_records i e
+place-by recs i (Some k) g e = g i e
+place-by recs i None g e = find-lt (free_here recs) max_records i e
 
 -- the place where a slot is kept is one of the records'
-pub place_of-lt : (recs : List Rec) (n i : ℕ) → place_of recs (rec_idx recs n) ≡ At i → i < max_records
+pub place_of-lt : (recs : List Rec) (n i : ℕ) → place_of recs (rec_idx recs n) ≡ Some i → i < max_records
 place_of-lt recs n i e = place-by recs i (rec_idx recs n) (λ j q. rec_idx-lt recs n j q) e
 
 -- a slot that isn't kept changes nothing

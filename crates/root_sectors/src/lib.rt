@@ -11,8 +11,7 @@ ghost use Rattle.root_sectors.specs.Root.{root_write, changed_slot, start_fits, 
 ghost use Rattle.root_sectors.specs.Records.{keep_rec, root_records};
 ghost use Rattle.root_sectors.specs.Lent.{Lent};
 
-use clusters::{host_cluster, is_nothing};
-use loops::Found;
+use clusters::host_cluster;
 use names::entries::copied;
 use records::{NREC, Rec, free_rec, rec_idx};
 use slots::dates::{dates_only, same_slot};
@@ -96,7 +95,7 @@ fn needs_rec(rec: [Rec; NREC], s: u32, g: &[u8], d: &[u8], i: u32) -> bool
     if s * 16 + i <= 6 {
         return false;
     }
-    is_nothing(rec_idx(rec, (s * 16 + i) as usize))
+    rec_idx(rec, (s * 16 + i) as usize).is_none()
 }
 
 // The slots in turn, up to the first that is refused; then 15.
@@ -134,12 +133,12 @@ fn root_number(
 }
 
 // The record of root slot `idx`, or the first free place.
-fn place_of(rec: [Rec; NREC], idx: usize) -> Found
+fn place_of(rec: [Rec; NREC], idx: usize) -> Option<usize>
     ensures { result ≡ place_of rec (rec_idx rec idx) }
 {
     match rec_idx(rec, idx) {
-        Found::At(k) => Found::At(k),
-        Found::Nothing => free_rec(rec),
+        Some(k) => Some(k),
+        None => free_rec(rec),
     }
 }
 
@@ -170,7 +169,7 @@ fn keep_all(rec: [Rec; NREC], s: u32, g: &[u8], d: &[u8]) -> Kept
         }
         kept.any = true;
         let rec = kept.rec;
-        let Found::At(k) = place_of(rec, slot as usize) else {
+        let Some(k) = place_of(rec, slot as usize) else {
             continue;
         };
         let e = copied(d, at);

@@ -18,8 +18,7 @@ use vdisk::ids::is_handed;
 pub fn row_at(files: &[VF], k: u16, n: u32) -> LastFile
     ensures { result ≡ files_asked k n files.now }
 {
-    let mut i = 0;
-    while i < files.len() {
+    for i in 0..files.len() {
         let f = files[i];
         if is_unturned_at(f.id, f.slot, k, n) {
             return LastFile {
@@ -29,7 +28,6 @@ pub fn row_at(files: &[VF], k: u16, n: u32) -> LastFile
                 size: f.vsize,
             };
         }
-        i = i + 1;
     }
     LastFile {
         n: 0,
@@ -73,15 +71,13 @@ pub fn row_by(files: &[VF], first: u32, c: u32) -> LastFile
 pub fn handed_row(files: &[VF]) -> usize
     ensures { result ≡ handed_row files.now }
 {
-    let mut i = 0;
-    while i < files.len() {
+    for i in 0..files.len() {
         let f = files[i];
         if is_handed(f.id) {
             return i;
         }
-        i = i + 1;
     }
-    i
+    files.len()
 }
 
 // The id of row `i`, 0 where there is no such row.

@@ -12,6 +12,7 @@ fn by_halves(files: &[VF], c: u32) -> usize
 {
     let mut lo = 0;
     let mut hi = files.len();
+    // A `while`, since each turn halves what is left.
     while lo < hi {
         let mid = lo + (hi - lo) / 2;
         if files[mid].vstart as u32 <= c {
@@ -33,10 +34,8 @@ fn start_behind(files: &[VF], n: usize, c: u32) -> bool
     }
     let k = c + 65536;
     let mut by = 0u32;
-    let mut i = n;
-    while i < files.len() {
+    for i in n..files.len() {
         by = by | (k - files[i].vstart as u32);
-        i = i + 1;
     }
     by < 65536
 }
@@ -45,12 +44,10 @@ fn start_behind(files: &[VF], n: usize, c: u32) -> bool
 fn by_rows(files: &[VF], c: u32) -> usize
     ensures { result ≡ up_to (map start_of files.now) c }
 {
-    let mut n = files.len();
-    while 0 < n {
-        if files[n - 1].vstart as u32 <= c {
-            return n;
+    for i in (0..files.len()).rev() {
+        if files[i].vstart as u32 <= c {
+            return i + 1;
         }
-        n = n - 1;
     }
     0
 }

@@ -31,12 +31,10 @@ pub fn root_decided(f: LastFile, first: u32, g: &[u8], d: &[u8]) -> bool
     requires { (length g.now ≡ 512) × (length d.now ≡ 512) }
     ensures { result ≡ root_decided f first g.now d.now }
 {
-    let mut i = 0;
-    while i < 16 {
+    for i in 0..16 {
         if !slot_decided(f, first, g, d, i) {
             return false;
         }
-        i += 1;
     }
     true
 }

@@ -1,5 +1,5 @@
 -- What becomes of a sector in a slot, applied to the state, is what staging is defined to leave.
-use Rattle.std.specs.Prelude.{ℕ, ◌<◌, Bool, ◌&&◌, ◌||◌, List, ◌≡◌, eqb, get_or, set}
+use Rattle.std.specs.Prelude.{ℕ, ◌<◌, Bool, ◌&&◌, ◌||◌, List, ◌≡◌, eqb, get_or, set, Option, Some, None}
 use Rattle.std.proofs.Math.Bool.{true, false}
 use Rattle.std.proofs.Math.Path.{refl, ap}
 use Rattle.std.proofs.Common.{sym, ◌∙◌}
@@ -7,8 +7,6 @@ use native.Mathlib.Omega.{arith}
 use Rattle.std.proofs.Math.Seq.{set-get_or, set-set}
 use Rattle.loops.specs.Loops.{pick}
 use Rattle.loops.specs.Choices.{either, and-1}
-use Rattle.loops.specs.declared.Found.{Found}
-use Rattle.loops.specs.declared.Found.TheVariants.{At, Nothing}
 use Rattle.sector.specs.Bytes.{same, zeros}
 use Rattle.state.specs.State.{max_slots, no_st}
 use Rattle.state.specs.PairLaws.{slot_of-lt, free_slot-lt}
@@ -19,12 +17,12 @@ use Rattle.state.specs.declared.w.W.{W}
 use Rattle.medium.specs.Medium.{is_medium, has_block, next_free}
 use Rattle.medium.specs.Reads.{sector_of}
 use Rattle.staging.specs.Blocks.{is_parked, held_for}
-use Rattle.staging.specs.Staging.{StageWrite, Staged, refused, slot_for, start_staging, moved_ids, put_into, into_block, with_block, on_medium, in_slot, claimed, in_found, stage}
+use Rattle.staging.specs.Staging.{StageWrite, refused, slot_for, start_staging, moved_ids, put_into, into_block, with_block, on_medium, in_slot, claimed, in_found, stage}
 use Rattle.stage.specs.declared.fate.Fate.{Fate}
 use Rattle.stage.specs.declared.fate.Kept.{Kept}
 use Rattle.stage.specs.declared.slot.SlotFor.{SlotFor}
 use Rattle.stage.specs.Applied.{kept_in, kept_state, staged_by, By}
-use Rattle.stage.specs.Fates.{Fated, Meets, left_as, refused_fate, put_fate, into_fate, block_fate, medium_fate, slot_fate, free_for, found_for, slot_in, fate_in, kept_by}
+use Rattle.stage.specs.Fates.{Meets, left_as, refused_fate, put_fate, into_fate, block_fate, medium_fate, slot_fate, free_for, found_for, slot_in, fate_in, kept_by}
 
 module _ (x : StageWrite) (w : W) (i : ℕ) (y : St) where
   -- the slot is y
@@ -87,19 +85,19 @@ module _ (x : StageWrite) (w : W) (i : ℕ) (y : St) where
 
 -- the call by the slot that was looked for
 module _ (x : StageWrite) (w : W) where
-  claimed-as : (f : Found) → claimed x w f ≡ By x w (free_for w.st x.c f)
+  claimed-as : (f : Option ℕ) → claimed x w f ≡ By x w (free_for w.st x.c f)
   unfolding claimed free_for fate_in
-  claimed-as (At i) = slot-as x w i (slot_for x.c)
-  claimed-as Nothing = none-as x w 0 (get_or w.st 0 no_st) 16 refl
+  claimed-as (Some i) = slot-as x w i (slot_for x.c)
+  claimed-as None = none-as x w 0 (get_or w.st 0 no_st) 16 refl
 
   same-slot : (i : ℕ) → w ≡ with_st w (set w.st i (get_or w.st i no_st))
   unfolding with_st
   same-slot i = rw (set-get_or w.st i no_st)
 
-  found-as : (f : Found) → in_found x w f ≡ By x w (found_for w.st x.c f)
+  found-as : (f : Option ℕ) → in_found x w f ≡ By x w (found_for w.st x.c f)
   unfolding in_found found_for fate_in
-  found-as (At i) = ap (λ (v : W). in_slot x v i (get_or w.st i no_st)) (same-slot i) ∙ slot-as x w i (get_or w.st i no_st)
-  found-as Nothing = claimed-as (free_slot w.st)
+  found-as (Some i) = ap (λ (v : W). in_slot x v i (get_or w.st i no_st)) (same-slot i) ∙ slot-as x w i (get_or w.st i no_st)
+  found-as None = claimed-as (free_slot w.st)
 
   -- a number known before leaves the state
   pub settled-as : (n : ℕ) → refused x n w ≡ By x w (slot_in true n w.st x.c)
@@ -124,15 +122,15 @@ module _ (x : StageWrite) (w : W) where
 
 -- a slot that was looked for is one of the 28
 module _ (st : List St) (c : ℕ) where
-  free-lt : (f : Found) → free_slot st ≡ f → (free_for st c f).i < max_slots
+  free-lt : (f : Option ℕ) → free_slot st ≡ f → (free_for st c f).i < max_slots
   unfolding free_for
-  free-lt (At i) e = free_slot-lt st i e
-  free-lt Nothing e = omega arith
+  free-lt (Some i) e = free_slot-lt st i e
+  free-lt None e = omega arith
 
-  found-lt : (f : Found) → slot_of st c ≡ f → (found_for st c f).i < max_slots
+  found-lt : (f : Option ℕ) → slot_of st c ≡ f → (found_for st c f).i < max_slots
   unfolding found_for
-  found-lt (At i) e = slot_of-lt st c i e
-  found-lt Nothing e = free-lt (free_slot st) refl
+  found-lt (Some i) e = slot_of-lt st c i e
+  found-lt None e = free-lt (free_slot st) refl
 
   pub slot-lt : (settled : Bool) (n : ℕ) → (slot_in settled n st c).i < max_slots
   unfolding slot_in

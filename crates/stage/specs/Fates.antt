@@ -1,8 +1,6 @@
 -- What becomes of a sector in a slot, told without the rest of the state: staging by the slot and the hint alone.
-use Rattle.std.specs.Prelude.{ℕ, Bool, true, false, ◌&&◌, ◌||◌, List, ◌≡◌, eqb, get_or}
+use Rattle.std.specs.Prelude.{ℕ, Bool, true, false, ◌&&◌, ◌||◌, List, ◌≡◌, eqb, get_or, Option, Some, None}
 use Rattle.loops.specs.Loops.{pick}
-use Rattle.loops.specs.declared.Found.{Found}
-use Rattle.loops.specs.declared.Found.TheVariants.{At, Nothing}
 use Rattle.num.specs.Num.{wrapping_next}
 use Rattle.sector.specs.Bytes.{same, zeros}
 use Rattle.state.specs.State.{no_st}
@@ -77,13 +75,13 @@ module _ (s : ℕ) (written fat area : List ℕ) (y : St) where
       pick (is_parked y s && same (sector_of fat area y s) written) (record { fate = left_as 0 hint y; area = area }) (medium_fate (start_hint staging hint))
 
 -- the slot of cluster c, else the first free of 28, claimed, else 16
-unfoldable pub free_for : List St → ℕ → Found → SlotFor
-free_for st c (At i) = record { found = true; no = 0; i = i; y = slot_for c }
-free_for st c Nothing = record { found = false; no = 16; i = 0; y = get_or st 0 no_st }
+unfoldable pub free_for : List St → ℕ → Option ℕ → SlotFor
+free_for st c (Some i) = record { found = true; no = 0; i = i; y = slot_for c }
+free_for st c None = record { found = false; no = 16; i = 0; y = get_or st 0 no_st }
 
-unfoldable pub found_for : List St → ℕ → Found → SlotFor
-found_for st c (At i) = record { found = true; no = 0; i = i; y = get_or st i no_st }
-found_for st c Nothing = free_for st c (free_slot st)
+unfoldable pub found_for : List St → ℕ → Option ℕ → SlotFor
+found_for st c (Some i) = record { found = true; no = 0; i = i; y = get_or st i no_st }
+found_for st c None = free_for st c (free_slot st)
 
 -- where the sector isn't settled before, with a number
 unfoldable pub slot_in : Bool → ℕ → List St → ℕ → SlotFor

@@ -1,13 +1,13 @@
 -- Laws of the block that a sector is staged in.
-use Rattle.std.specs.Prelude.{ℕ, zero, suc, ◌+◌, ◌-◌, ◌*◌, ◌≤◌, max, Bool, true, false, ◌&&◌, ◌||◌, List, ◌≡◌, leb, ltb, eqb, length}
+use Rattle.std.specs.Prelude.{ℕ, zero, suc, ◌+◌, ◌-◌, ◌*◌, ◌≤◌, max, Bool, true, false, ◌&&◌, ◌||◌, List, ◌≡◌, leb, ltb, eqb, length, Option, Some, None}
 use Rattle.std.proofs.lemmas.Bool.{false≢true}
-use Rattle.std.proofs.Common.{arith, le-leb, leb-true, eqb-true}
-use Rattle.loops.specs.Loops.{first}
-use Rattle.loops.specs.Choices.{pick-by, and-of, and-1, and-0, or-by}
+use Rattle.std.proofs.lemmas.Option.{none-some, same_Some}
+use Rattle.std.proofs.Common.{arith, sym, ◌∙◌, le-leb, leb-true, eqb-true}
+use Rattle.loops.specs.Loops.{pick, first}
+use Rattle.loops.specs.Choices.{pick-by, picked, and-of, and-1, and-0, or-by}
 use Rattle.state.specs.declared.w.St.{St}
-use Rattle.medium.specs.Medium.{is_medium, has_block, free_at, search_end, next_free}
+use Rattle.medium.specs.Medium.{Free, is_medium, has_block, free_at, search_end, next_free}
 use Rattle.medium.specs.MediumLaws.{InArea, block-in}
-use Rattle.medium.specs.declared.blocks.NextFree.{NextFree}
 use Rattle.staging.specs.Blocks.{is_parked, held_for}
 use Rattle.staging.specs.FillLaws.{HeldIn}
 use Rattle.stage.specs.Fates.{refused_fate, into_fate, block_fate}
@@ -23,7 +23,7 @@ unfolding next_free search_end has_block
 found-inside fat area hint m =
     let from = max hint 2 in
     let at = first (free_at fat) (length fat - from) from in
-    pick-by (λ (n : NextFree). n.found ≡ true → InArea area n.block) (ltb at (length fat))
+    pick-by (λ (n : Free). n.found ≡ true → InArea area n.block) (ltb at (length fat))
     (record { found = true; block = at; hint = at + 1 })
     (record { found = false; block = 0; hint = at })
     (λ l e. let h : 2 ≤ at = omega (arith, first-from (free_at fat) (length fat - from) from) in
@@ -43,12 +43,29 @@ held-in fat area x s e h =
     or-by (eqb (held_for x s) 0) (has_block fat area (held_for x s)) e (λ q. absurd (h (eqb-true (held_for x s) 0 q))) (λ q. block-in fat area (held_for x s) q)
 
 -- a free block was searched for, and none was found, or one
-module _ (s : ℕ) (written fat area : List ℕ) (y : St) (hint : ℕ) (n : NextFree)
-    (needs : (eqb (held_for y s) 0 || is_parked y s) ≡ true) (e : n ≡ next_free fat hint) where
-  pub free-none : n.found ≡ false → block_fate s written fat area y hint ≡ refused_fate s written fat area y 18 n.hint
+module _ (s : ℕ) (written fat area : List ℕ) (y : St) (hint : ℕ) (b : Option ℕ) (h : ℕ)
+    (needs : (eqb (held_for y s) 0 || is_parked y s) ≡ true)
+    (eb : b ≡ pick (next_free fat hint).found (Some (next_free fat hint).block) None) (eh : h ≡ (next_free fat hint).hint) where
+  pub free-none : b ≡ None → block_fate s written fat area y hint ≡ refused_fate s written fat area y 18 h
   unfolding block_fate
-  free-none f = rw (needs, ← e, f)
+  free-none q =
+      picked (next_free fat hint).found (Some (next_free fat hint).block) None None (sym eb ∙ q)
+      (λ t (e : Some (next_free fat hint).block ≡ None). absurd (none-some _ (sym e)))
+      (λ f e. rw (needs, f, eh))
 
+  -- and it is one of the medium's
+  pub free-some : is_medium fat area ≡ true → (k : ℕ) → b ≡ Some k
+      → (block_fate s written fat area y hint ≡ into_fate s written fat area y h k) × InArea area k
+  unfolding block_fate
+  free-some m k q =
+      picked (next_free fat hint).found (Some (next_free fat hint).block) None (Some k) (sym eb ∙ q)
+      (λ t e. let z : (next_free fat hint).block ≡ k = same_Some _ _ e in
+      (rw (needs, t, eh, ← z), rw z at (found-inside fat area hint m t)))
+      (λ f (e : None ≡ Some k). absurd (none-some _ e))
+
+-- one is found: it is staged there
+module _ (s : ℕ) (written fat area : List ℕ) (y : St) (hint : ℕ) (n : Free)
+    (needs : (eqb (held_for y s) 0 || is_parked y s) ≡ true) (e : n ≡ next_free fat hint) where
   pub free-found : n.found ≡ true → block_fate s written fat area y hint ≡ into_fate s written fat area y n.hint n.block
   unfolding block_fate
   free-found f = rw (needs, ← e, f)

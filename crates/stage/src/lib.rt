@@ -71,7 +71,7 @@ fn with_block(y: St, hint: u32, s: u32, d: &[u8], fat: &[u16], area: &mut [u8]) 
         return into_block(y, hint, held, s, d, fat, area);
     }
     let f = next_free(fat, hint);
-    if !f.found {
+    let Some(block) = f.block else {
         return Fate {
             no: 18,
             changed: false,
@@ -79,8 +79,8 @@ fn with_block(y: St, hint: u32, s: u32, d: &[u8], fat: &[u16], area: &mut [u8]) 
             hint: f.hint,
             y: y,
         };
-    }
-    into_block(y, f.hint, f.block, s, d, fat, area)
+    };
+    into_block(y, f.hint, block, s, d, fat, area)
 }
 
 // Zeros of a block that is not held take no block; 17 of no medium.

@@ -7,7 +7,6 @@ ghost use Rattle.medium.specs.Reads.{sector_of};
 ghost use Rattle.staging.specs.Blocks.{is_parked, held_for};
 ghost use Rattle.stage.specs.Fates.{start_hint, free_for, slot_in};
 
-use loops::Found;
 use medium::blocks::has_block;
 use medium::reads::read_sector;
 use staging::blocks::is_parked;
@@ -93,7 +92,7 @@ fn free_for(st: [St; NST], c: u32) -> SlotFor
     requires { c < 65536 }
     ensures { result ≡ free_for st c (free_slot st) }
 {
-    let Found::At(i) = state::staged::free_slot(st) else {
+    let Some(i) = state::staged::free_slot(st) else {
         let other = st[0];
         return SlotFor {
             found: false,
@@ -131,7 +130,7 @@ pub fn slot_for(settled: bool, no: u8, st: [St; NST], c: u32) -> SlotFor
             y: other,
         };
     }
-    let Found::At(i) = state::staged::slot_of(st, c) else {
+    let Some(i) = state::staged::slot_of(st, c) else {
         return free_for(st, c);
     };
     let y = st[i];

@@ -1,13 +1,11 @@
 -- Which data sectors the table's last file decides, and what it says of them before a slot is looked for.
-use Rattle.std.specs.Prelude.{ℕ, Bool, true, false, ◌&&◌, List, eqb, ltb, length}
+use Rattle.std.specs.Prelude.{ℕ, Bool, true, false, ◌&&◌, List, eqb, ltb, length, Option, Some, None}
 use Rattle.loops.specs.Loops.{pick}
 use Rattle.sector.specs.Bytes.{same}
 use Rattle.vdisk.specs.Drive.{place_of, dir_kind_of}
 use Rattle.vdisk.specs.Owner.{owner_of}
 use Rattle.vdisk.specs.declared.drive.Place.{Place}
 use Rattle.vdisk.specs.declared.drive.Place.TheVariants.{Boot, Fat, Root, Data, Outside}
-use Rattle.vdisk.specs.declared.drive.DirKind.{DirKind}
-use Rattle.vdisk.specs.declared.drive.DirKind.TheVariants.{Kind, NoDir}
 use Rattle.file_table.specs.Table.{max_files}
 use Rattle.state.specs.declared.w.Pair.{Pair}
 use Rattle.clusters.specs.Clusters.{host_cluster}
@@ -22,9 +20,9 @@ abbrev pub nowhere : Here
 nowhere = record { settled = false; c = 0; s = 0 }
 
 -- a directory's cluster is not decided
-unfoldable pub decided_in : LastFile → ℕ → ℕ → DirKind → Bool
-decided_in f first c (Kind k) = false
-decided_in f first c NoDir = decides f first c
+unfoldable pub decided_in : LastFile → ℕ → ℕ → Option ℕ → Bool
+decided_in f first c (Some k) = false
+decided_in f first c None = decides f first c
 
 -- nor is a sector outside the data
 unfoldable pub here_at : LastFile → ℕ → Place → Here

@@ -1,5 +1,5 @@
 -- What a decided data sector is known to be.
-use Rattle.std.specs.Prelude.{ℕ, ◌<◌, ◌≤◌, Bool, true, false, ◌&&◌, List, ◌≡◌, ltb, length}
+use Rattle.std.specs.Prelude.{ℕ, ◌<◌, ◌≤◌, Bool, true, false, ◌&&◌, List, ◌≡◌, ltb, length, Option, Some, None}
 use Rattle.std.proofs.lemmas.Bool.{false≢true}
 use Rattle.std.proofs.Math.Path.{refl}
 use Rattle.std.proofs.Common.{sym, ◌∙◌, subst}
@@ -11,8 +11,6 @@ use Rattle.loops.specs.Choices.{either, pick-by, pick-has, and-1}
 use Rattle.vdisk.specs.Drive.{place_of, dir_kind_of}
 use Rattle.vdisk.specs.declared.drive.Place.{Place}
 use Rattle.vdisk.specs.declared.drive.Place.TheVariants.{Boot, Fat, Root, Data, Outside}
-use Rattle.vdisk.specs.declared.drive.DirKind.{DirKind}
-use Rattle.vdisk.specs.declared.drive.DirKind.TheVariants.{Kind, NoDir}
 use Rattle.file_table.specs.Table.{max_files}
 use Rattle.state.specs.declared.w.St.{St}
 use Rattle.state.specs.declared.w.Pair.{Pair}
@@ -31,7 +29,7 @@ module _ (writable : Bool) (f : LastFile) (first lba : ℕ) (shown written : Lis
   -- a place that is decided
   pub record AtPlace (h : Here) : Type 0 where
     pub place : place_of lba ≡ Data h.c h.s
-    pub plain : dir_kind_of h.c ≡ NoDir
+    pub plain : dir_kind_of h.c ≡ None
     pub decided : decides f first h.c ≡ true
 
   -- and a sector that is judged by its place
@@ -41,10 +39,10 @@ module _ (writable : Bool) (f : LastFile) (first lba : ℕ) (shown written : Lis
     pub writing : writable ≡ true
     pub at : AtPlace h
 
-  plain-in : (c s : ℕ) (k : DirKind) → dir_kind_of c ≡ k → place_of lba ≡ Data c s → decided_in f first c k ≡ true → AtPlace (record { settled = decided_in f first c k; c = c; s = s })
+  plain-in : (c s : ℕ) (k : Option ℕ) → dir_kind_of c ≡ k → place_of lba ≡ Data c s → decided_in f first c k ≡ true → AtPlace (record { settled = decided_in f first c k; c = c; s = s })
   unfolding decided_in
-  plain-in c s (Kind k) d p e = absurd (false≢true e)
-  plain-in c s NoDir d p e = record { place = p; plain = d; decided = e }
+  plain-in c s (Some k) d p e = absurd (false≢true e)
+  plain-in c s None d p e = record { place = p; plain = d; decided = e }
 
   at-by : (p : Place) → place_of lba ≡ p → (here_at f first p).settled ≡ true → AtPlace (here_at f first p)
   unfolding here_at

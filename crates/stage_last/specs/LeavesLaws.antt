@@ -1,5 +1,5 @@
 -- A data sector that the last file decides leaves what `write` leaves, of every table with that last file.
-use Rattle.std.specs.Prelude.{ℕ, ◌-◌, Bool, not, ◌&&◌, List, ◌≡◌, eqb, leb, length, get_or}
+use Rattle.std.specs.Prelude.{ℕ, ◌-◌, Bool, not, ◌&&◌, List, ◌≡◌, eqb, leb, length, get_or, None}
 use Rattle.std.proofs.Math.Bool.{true, false}
 use Rattle.std.proofs.Math.Path.{refl, subst}
 use Rattle.std.proofs.Common.{sym, ◌∙◌, ap, eq-eqb, eqb-true, le-leb}
@@ -9,7 +9,6 @@ use Rattle.loops.specs.Rows.{rows-same}
 use Rattle.sector.specs.Bytes.{same, zeros}
 use Rattle.vdisk.specs.Owner.{owner_of}
 use Rattle.vdisk.specs.declared.owner.Own.{Own}
-use Rattle.vdisk.specs.declared.drive.DirKind.TheVariants.{NoDir}
 use Rattle.file_table.specs.Table.{max_files, table_of, whole_columns}
 use Rattle.state.specs.declared.w.W.{W}
 use Rattle.clusters.specs.Clusters.{host_cluster}
@@ -96,7 +95,7 @@ module _ (lba : ℕ) (shown written : List ℕ) (busy : Bool) (fat area ids slot
     number = number-by (length ids - 1) _ _ (same-owner h.c w.first ids starts sizes starts-long known.at.decided)
 
     abbrev Whole : Outcome
-    Whole = cluster X w h.c h.s NoDir
+    Whole = cluster X w h.c h.s None
 
     whole-host : host_cluster ids starts sizes w.first w.pair h.c ≡ true → Whole ≡ outcome_of (stage S w)
     unfolding cluster

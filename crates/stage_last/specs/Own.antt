@@ -1,12 +1,10 @@
 -- Data of the drive's own clusters: its number, and what it is to refuse it whatever the table has.
-use Rattle.std.specs.Prelude.{ℕ, Bool, true, List, ◌≡◌, ltb, length}
+use Rattle.std.specs.Prelude.{ℕ, Bool, true, List, ◌≡◌, ltb, length, Option, Some, None}
 use Rattle.loops.specs.Loops.{pick}
 use Rattle.sector.specs.Bytes.{same}
 use Rattle.vdisk.specs.Drive.{dir_kind_of}
 use Rattle.vdisk.specs.declared.drive.Place.{Place}
 use Rattle.vdisk.specs.declared.drive.Place.TheVariants.{Boot, Fat, Root, Data, Outside}
-use Rattle.vdisk.specs.declared.drive.DirKind.{DirKind}
-use Rattle.vdisk.specs.declared.drive.DirKind.TheVariants.{Kind, NoDir}
 use Rattle.file_table.specs.Table.{table_of, whole_columns}
 use Rattle.state.specs.declared.w.W.{W}
 use Rattle.judge.specs.Classify.{sector_write}
@@ -15,9 +13,9 @@ use Rattle.tally.specs.Refused.{refused_in}
 use Rattle.tally.specs.declared.refused.Refused.{Refused}
 
 -- 5, but of a directory's cluster, which is judged otherwise, 0
-unfoldable pub plain_number : DirKind → ℕ
-plain_number (Kind k) = 0
-plain_number NoDir = 5
+unfoldable pub plain_number : Option ℕ → ℕ
+plain_number (Some k) = 0
+plain_number None = 5
 
 -- below the first session cluster, and not the shown sector
 unfoldable pub own_number_in : ℕ → List ℕ → List ℕ → ℕ → ℕ

@@ -1,5 +1,5 @@
 -- Data of the drive's own clusters is refused as `write` refuses it.
-use Rattle.std.specs.Prelude.{ℕ, true, false, ◌||◌, List, ◌≡◌, eqb}
+use Rattle.std.specs.Prelude.{ℕ, true, false, ◌||◌, List, ◌≡◌, eqb, Option, Some, None}
 use Rattle.std.proofs.Common.{true≢false, sym, ap, ◌∙◌, subst}
 use Rattle.std.proofs.lemmas.Bool.{false≢true}
 use Rattle.std.proofs.Math.Dec.{ltb}
@@ -10,8 +10,6 @@ use Rattle.vdisk.specs.Drive.{place_of, dir_kind_of, last_cluster}
 use Rattle.vdisk.specs.Owner.{owner_of}
 use Rattle.vdisk.specs.declared.drive.Place.{Place}
 use Rattle.vdisk.specs.declared.drive.Place.TheVariants.{Boot, Fat, Root, Data, Outside}
-use Rattle.vdisk.specs.declared.drive.DirKind.{DirKind}
-use Rattle.vdisk.specs.declared.drive.DirKind.TheVariants.{Kind, NoDir}
 use Rattle.state.specs.declared.w.W.{W}
 use Rattle.clusters.specs.Clusters.{host_own, host_cluster}
 use Rattle.judge.specs.Classify.{SectorWrite, sector_write, Outcome, refused, unless_shown, data_number, other_data, cluster, at_place, classify}
@@ -22,7 +20,7 @@ use Rattle.stage_last.specs.Own.{plain_number, own_number_in, own_number_at, Own
 
 module _ (x : SectorWrite) (w : W) where
   -- no host cluster, and 5 of its owner, who is Reserved or Fixed
-  own-cluster : (c s : ℕ) → ltb c w.first ≡ true → same x.shown x.written ≡ false → cluster x w c s NoDir ≡ refused x w 5
+  own-cluster : (c s : ℕ) → ltb c w.first ≡ true → same x.shown x.written ≡ false → cluster x w c s None ≡ refused x w 5
   unfolding cluster unless_shown other_data host_cluster host_own owner_of data_number
   own-cluster c s l o = either (ltb c 2 || ltb last_cluster c) (λ a. rw (a, o)) (λ a. rw (a, l, o))
 
@@ -30,10 +28,10 @@ module _ (x : SectorWrite) (w : W) where
   abbrev Is : Outcome → ℕ → Type 0
   Is o n = eqb n 0 ≡ false → o ≡ refused x w n
 
-  cluster-is : (c s : ℕ) (k : DirKind) → ltb c w.first ≡ true → same x.shown x.written ≡ false → Is (cluster x w c s k) (plain_number k)
+  cluster-is : (c s : ℕ) (k : Option ℕ) → ltb c w.first ≡ true → same x.shown x.written ≡ false → Is (cluster x w c s k) (plain_number k)
   unfolding plain_number
-  cluster-is c s (Kind k) l o z = absurd (true≢false z)
-  cluster-is c s NoDir l o z = own-cluster c s l o
+  cluster-is c s (Some k) l o z = absurd (true≢false z)
+  cluster-is c s None l o z = own-cluster c s l o
 
   data-is : (c s : ℕ) → Is (cluster x w c s (dir_kind_of c)) (own_number_in w.first x.shown x.written c)
   unfolding own_number_in

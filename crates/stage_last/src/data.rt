@@ -10,7 +10,7 @@ use file_table::MAX_VF;
 use judge::places::data_number;
 use last_file::{LastFile, host_by_last, last_decides, last_rows};
 use state::w::{NPAIR, Pair};
-use vdisk::drive::{DirKind, Place, dir_kind, place_of};
+use vdisk::drive::{Place, dir_kind, place_of};
 use write::early::Early;
 use write::lent::whole_sectors;
 
@@ -26,7 +26,7 @@ pub struct Here {
 fn decided_in(f: LastFile, first: u32, c: u32) -> bool
     ensures { result ≡ decided_in f first c (dir_kind_of c) }
 {
-    let DirKind::Kind(_) = dir_kind(c) else {
+    let Some(_) = dir_kind(c) else {
         return last_decides(f, first, c);
     };
     false

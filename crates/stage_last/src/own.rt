@@ -6,13 +6,13 @@ ghost use Rattle.stage_last.specs.Own.{plain_number, own_number_in, own_number_a
 use state::w::W;
 use tally::judged::is_judged;
 use tally::refused::{Refused, refuse};
-use vdisk::drive::{DirKind, Place, dir_kind, place_of};
+use vdisk::drive::{Place, dir_kind, place_of};
 
 // 5, but of a directory's cluster, which is judged otherwise, 0.
 fn plain_number(c: u32) -> u8
     ensures { result ≡ plain_number (dir_kind_of c) }
 {
-    let DirKind::Kind(_) = dir_kind(c) else {
+    let Some(_) = dir_kind(c) else {
         return 5;
     };
     0

@@ -1,9 +1,7 @@
 -- How data written to a host cluster is staged (document 01, "Judging a sector", Staging).
-use Rattle.std.specs.Prelude.{ℕ, Bool, true, false, ◌&&◌, ◌||◌, List, eqb, get_or, set, replicate}
+use Rattle.std.specs.Prelude.{ℕ, Bool, true, false, ◌&&◌, ◌||◌, List, eqb, get_or, set, replicate, Option, Some, None}
 use Rattle.loops.specs.Loops.{pick}
 use Rattle.loops.specs.Rows.{rows}
-use Rattle.loops.specs.declared.Found.{Found}
-use Rattle.loops.specs.declared.Found.TheVariants.{At, Nothing}
 use Rattle.num.specs.Num.{wrapping_next}
 use Rattle.bits.specs.Bit.{set_bit}
 use Rattle.sector.specs.Bytes.{same, zeros}
@@ -108,13 +106,13 @@ in_slot x w i y =
     pick (is_parked y x.s && same (sector_of x.fat x.area y x.s) x.written) (unchanged x w) (on_medium x (start_staging w) i y)
 
 -- the slot, else the first free of 28, else 16
-unfoldable pub claimed : StageWrite → W → Found → Staged
-claimed x w (At i) = in_slot x (with_st w (set w.st i (slot_for x.c))) i (slot_for x.c)
-claimed x w Nothing = refused x 16 w
+unfoldable pub claimed : StageWrite → W → Option ℕ → Staged
+claimed x w (Some i) = in_slot x (with_st w (set w.st i (slot_for x.c))) i (slot_for x.c)
+claimed x w None = refused x 16 w
 
-unfoldable pub in_found : StageWrite → W → Found → Staged
-in_found x w (At i) = in_slot x w i (get_or w.st i no_st)
-in_found x w Nothing = claimed x w (free_slot w.st)
+unfoldable pub in_found : StageWrite → W → Option ℕ → Staged
+in_found x w (Some i) = in_slot x w i (get_or w.st i no_st)
+in_found x w None = claimed x w (free_slot w.st)
 
 -- 19; the slot
 unfoldable pub stage : StageWrite → W → Staged

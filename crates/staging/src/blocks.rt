@@ -90,10 +90,8 @@ fn new_block(area: &mut [u8], b: usize, x: St, s: u32)
     requires { InArea area.old b × (s < 64) }
     ensures { area.new ≡ area_with area.old b (new_block x s) }
 {
-    let mut q = 0;
-    while q < 8 {
+    for q in 0..8 {
         new_sector(area, b, x, s, q);
-        q += 1;
     }
 }
 
@@ -104,11 +102,9 @@ fn copy_block(area: &mut [u8], b: usize, from: usize)
 {
     let to_at = (b - 2) * 4096;
     let from_at = (from - 2) * 4096;
-    let mut j = 0;
-    while j < 4096 {
+    for j in 0..4096 {
         let v = area[from_at + j];
         area[to_at + j] = v;
-        j += 1;
     }
 }
 

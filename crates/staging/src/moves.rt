@@ -31,11 +31,9 @@ fn note_moves(ids: &mut [u16], starts: &[u16], sizes: &[u32], d: &[u8])
     requires { (length starts.now ≡ length ids.old) × (length sizes.now ≡ length ids.old) × (length d.now ≡ 512) }
     ensures { ids.new ≡ rows (move_id (table_write ids.old starts.now sizes.now d.now)) ids.old }
 {
-    let mut j = 0;
-    while j < ids.len() {
+    for j in 0..ids.len() {
         let id = move_id(ids[j], starts[j], sizes[j], d);
         ids[j] = id;
-        j += 1;
     }
 }
 

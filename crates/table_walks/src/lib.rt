@@ -36,11 +36,9 @@ pub fn note_moves(files: &mut [VF], d: &[u8], marks: bool)
     ensures { files.new ≡ noted_files marks d.now files.old }
 {
     let n = noted_rows(marks, files.len());
-    let mut i = 0;
-    while i < n {
+    for i in 0..n {
         let f = files[i];
         let id = noted_id(f.id, f.vstart, f.vsize, d);
         files[i].id = id;
-        i = i + 1;
     }
 }

@@ -1,12 +1,10 @@
 -- How a directory sector is judged with the file asked for alone.
-use Rattle.std.specs.Prelude.{ℕ, Bool, true, false, not, ◌||◌, List, [], ◌∷◌, get_or, take}
+use Rattle.std.specs.Prelude.{ℕ, Bool, true, false, not, ◌||◌, List, [], ◌∷◌, get_or, take, Option, Some, None}
 use Rattle.loops.specs.Loops.{pick}
 use Rattle.sector.specs.Bytes.{same}
 use Rattle.vdisk.specs.Drive.{dir_kind_of}
 use Rattle.vdisk.specs.declared.drive.Place.{Place}
 use Rattle.vdisk.specs.declared.drive.Place.TheVariants.{Boot, Fat, Root, Data, Outside}
-use Rattle.vdisk.specs.declared.drive.DirKind.{DirKind}
-use Rattle.vdisk.specs.declared.drive.DirKind.TheVariants.{Kind, NoDir}
 use Rattle.state.specs.declared.w.St.{St}
 use Rattle.dir_sectors.specs.Dir.{DirWrite, dir_write, dir_number, dir_ids, dir_changed}
 use Rattle.last_file.specs.LastFile.{last_rows, last_ids, last_starts, last_sizes}
@@ -37,9 +35,9 @@ dir_fate f k s shown written fat area st =
     pick (same shown written || not (one_turn shown written)) (unsettled f) (file_fate f (asked_in k s shown written).n k s shown written fat area st)
 
 -- other clusters are not judged here
-unfoldable pub cluster_fate : LastFile → ℕ → List ℕ → List ℕ → List ℕ → List ℕ → List St → DirKind → Fate
-cluster_fate f s shown written fat area st (Kind k) = dir_fate f k s shown written fat area st
-cluster_fate f s shown written fat area st NoDir = unsettled f
+unfoldable pub cluster_fate : LastFile → ℕ → List ℕ → List ℕ → List ℕ → List ℕ → List St → Option ℕ → Fate
+cluster_fate f s shown written fat area st (Some k) = dir_fate f k s shown written fat area st
+cluster_fate f s shown written fat area st None = unsettled f
 
 -- nor are other places
 unfoldable pub fate_at : LastFile → List ℕ → List ℕ → List ℕ → List ℕ → List St → Place → Fate

@@ -1,5 +1,5 @@
 -- A settled sector is judged as `write` judges it, of every table in which that file is found.
-use Rattle.std.specs.Prelude.{ℕ, zero, suc, ◌+◌, ◌*◌, ◌<◌, Bool, true, false, ◌&&◌, ◌||◌, List, [], ◌∷◌, ◌++◌, ◌≡◌, eqb, ltb, length, get_or, drop}
+use Rattle.std.specs.Prelude.{ℕ, zero, suc, ◌+◌, ◌*◌, ◌<◌, Bool, true, false, ◌&&◌, ◌||◌, List, [], ◌∷◌, ◌++◌, ◌≡◌, eqb, ltb, length, get_or, drop, Option, Some, None}
 use Rattle.std.proofs.Math.Bool.{not}
 use Rattle.std.proofs.lemmas.Bool.{false≢true}
 use Rattle.std.proofs.Math.Path.{refl, subst}
@@ -11,8 +11,6 @@ use Rattle.sector.specs.Bytes.{same}
 use Rattle.vdisk.specs.Drive.{place_of, dir_kind_of}
 use Rattle.vdisk.specs.declared.drive.Place.{Place}
 use Rattle.vdisk.specs.declared.drive.Place.TheVariants.{Boot, Fat, Root, Data, Outside}
-use Rattle.vdisk.specs.declared.drive.DirKind.{DirKind}
-use Rattle.vdisk.specs.declared.drive.DirKind.TheVariants.{Kind, NoDir}
 use Rattle.file_table.specs.Table.{table_of, whole_columns}
 use Rattle.state.specs.declared.w.W.{W}
 use Rattle.state.specs.declared.w.St.{St}
@@ -101,11 +99,11 @@ module _ (w : W) (lba : ℕ) (shown written : List ℕ) (busy : Bool) (fats area
         (λ z e. let q = or-no (same shown written) (not (one_turn shown written)) z in
         shown-not (dir x w k s) q.0 ∙ dir-judged (not-no (one_turn shown written) q.1))
 
-  cluster-is : (c s : ℕ) (q : DirKind)
+  cluster-is : (c s : ℕ) (q : Option ℕ)
       → Is (file_in (asked_of q s shown written)) (cluster x w c s q) (cluster_fate (file_in (asked_of q s shown written)) s shown written fats area w.st q)
   unfolding cluster cluster_fate asked_of
-  cluster-is c s (Kind k) = dir-is k s
-  cluster-is c s NoDir = λ e. absurd (false≢true e)
+  cluster-is c s (Some k) = dir-is k s
+  cluster-is c s None = λ e. absurd (false≢true e)
 
   -- at every place
   placed : (p : Place) → Is (file_in (asked_at p shown written)) (at_place x w p) (fate_at (file_in (asked_at p shown written)) shown written fats area w.st p)

@@ -1,16 +1,12 @@
 -- The file that a directory sector asks for, and what it is for the sector to be settled by it: the answer, the state and the marks are `write`'s,
 -- of every table in which that file is found.
-use Rattle.std.specs.Prelude.{ℕ, ◌-◌, ◌+◌, ◌*◌, Bool, true, not, ◌&&◌, ◌||◌, List, ◌≡◌, eqb, ltb, length, get_or, set}
+use Rattle.std.specs.Prelude.{ℕ, ◌-◌, ◌+◌, ◌*◌, Bool, true, not, ◌&&◌, ◌||◌, List, ◌≡◌, eqb, ltb, length, get_or, set, Option, Some, None}
 use Rattle.loops.specs.Loops.{pick, all, first as first_of}
 use Rattle.loops.specs.Found.{find}
-use Rattle.loops.specs.declared.Found.{Found}
-use Rattle.loops.specs.declared.Found.TheVariants.{At, Nothing}
 use Rattle.vdisk.specs.Ids.{id_dir_of, turned}
 use Rattle.vdisk.specs.Drive.{place_of, dir_kind_of}
 use Rattle.vdisk.specs.declared.drive.Place.{Place}
 use Rattle.vdisk.specs.declared.drive.Place.TheVariants.{Boot, Fat, Root, Data, Outside}
-use Rattle.vdisk.specs.declared.drive.DirKind.{DirKind}
-use Rattle.vdisk.specs.declared.drive.DirKind.TheVariants.{Kind, NoDir}
 use Rattle.slots.specs.Slots.{turn_at}
 use Rattle.file_table.specs.Table.{table_of, whole_columns}
 use Rattle.state.specs.Setters.{with_session, with_last, with_err, with_n}
@@ -30,9 +26,9 @@ abbrev pub unturned_row : Asked → List ℕ → List ℕ → ℕ → Bool
 unturned_row a ids slots j = unturned_at a.k a.n (get_or ids j 0) (get_or slots j 0)
 
 -- the file of a row, with how many rows there are up to it; zeros where no row was found
-unfoldable pub file_of : List ℕ → List ℕ → List ℕ → Found → LastFile
-file_of ids starts sizes (At j) = record { n = j + 1; id = get_or ids j 0; start = get_or starts j 0; size = get_or sizes j 0 }
-file_of ids starts sizes Nothing = record { n = 0; id = 0; start = 0; size = 0 }
+unfoldable pub file_of : List ℕ → List ℕ → List ℕ → Option ℕ → LastFile
+file_of ids starts sizes (Some j) = record { n = j + 1; id = get_or ids j 0; start = get_or starts j 0; size = get_or sizes j 0 }
+file_of ids starts sizes None = record { n = 0; id = 0; start = 0; size = 0 }
 
 -- the first such file
 abbrev pub file_asked : Asked → List ℕ → List ℕ → List ℕ → List ℕ → LastFile
@@ -63,9 +59,9 @@ unfoldable pub asked_in : ℕ → ℕ → List ℕ → List ℕ → Asked
 asked_in k s shown written = pick (ltb (first_turn shown written) 16) (record { k = k; n = s * 16 + first_turn shown written }) no_file
 
 -- only a directory's cluster asks for a file
-unfoldable pub asked_of : DirKind → ℕ → List ℕ → List ℕ → Asked
-asked_of (Kind k) s shown written = asked_in k s shown written
-asked_of NoDir s shown written = no_file
+unfoldable pub asked_of : Option ℕ → ℕ → List ℕ → List ℕ → Asked
+asked_of (Some k) s shown written = asked_in k s shown written
+asked_of None s shown written = no_file
 
 -- only data does
 unfoldable pub asked_at : Place → List ℕ → List ℕ → Asked

@@ -1,6 +1,6 @@
 -- A directory sector that turns one slot at most is judged with the file asked for alone as with the whole table.
 use Prim.Native.Nat.{ℕ, zero, suc, ◌+◌, ◌-◌, ◌*◌, ◌<◌}
-use Rattle.std.specs.Prelude.{Bool, true, false, ◌&&◌, ◌||◌, ◌≡◌, eqb, ltb, length, get_or, set}
+use Rattle.std.specs.Prelude.{Bool, true, false, ◌&&◌, ◌||◌, ◌≡◌, eqb, ltb, length, get_or, set, Option, Some, None}
 use Rattle.std.proofs.Math.Bool.{not}
 use Rattle.std.proofs.lemmas.Bool.{false≢true}
 use mathlib.Core.List.{List, [], ◌∷◌}
@@ -14,8 +14,6 @@ use Rattle.loops.specs.Facts.{all-at}
 use Rattle.loops.specs.Found.{find, found_below, find-is, find-first}
 use Rattle.loops.specs.Marks.{is_at, picked_by}
 use Rattle.loops.specs.Rows.{rows as rows_of, rows_from, rows-at, rows-length}
-use Rattle.loops.specs.declared.Found.{Found}
-use Rattle.loops.specs.declared.Found.TheVariants.{At, Nothing}
 use Rattle.slots.specs.Slots.{dates_only}
 use Rattle.vdisk.specs.Ids.{id_dir_of, turned}
 use Rattle.state.specs.declared.w.St.{St}
@@ -57,27 +55,27 @@ rows-one f xs j v e g =
     (λ q. let z = eqb-false i j q in g i z ∙ sym (get_or-set_other xs j i v 0 z)))
 
 -- what a slot turns of the whole table, and of the other, whose row 0 is row j
-pub data SameTurn (j : ℕ) : Found → Found → Type 0 where
-  none : SameTurn j Nothing Nothing
-  row : SameTurn j (At j) (At 0)
+pub data SameTurn (j : ℕ) : Option ℕ → Option ℕ → Type 0 where
+  none : SameTurn j None None
+  row : SameTurn j (Some j) (Some 0)
 
-same-found : (j : ℕ) (a b : Found) → SameTurn j a b → is_found a ≡ is_found b
+same-found : (j : ℕ) (a b : Option ℕ) → SameTurn j a b → is_found a ≡ is_found b
 unfolding is_found
 same-found j _ _ none = refl
 same-found j _ _ row = refl
 
-same-row : (j : ℕ) (a b : Found) → SameTurn j a b → is_at j a ≡ is_at 0 b
+same-row : (j : ℕ) (a b : Option ℕ) → SameTurn j a b → is_at j a ≡ is_at 0 b
 unfolding is_at
 same-row j _ _ none = refl
 same-row j _ _ row = eq-eqb j j refl
 
-other-row : (j m : ℕ) (a b : Found) → (m ≡ j → ⊥) → SameTurn j a b → is_at m a ≡ false
+other-row : (j m : ℕ) (a b : Option ℕ) → (m ≡ j → ⊥) → SameTurn j a b → is_at m a ≡ false
 unfolding is_at
 other-row j m _ _ n none = refl
 other-row j m _ _ n row = ne_eqb j m (λ e. n (sym e))
 
-both : (j : ℕ) (a b c d : Found) → a ≡ c → b ≡ d → SameTurn j c d → SameTurn j a b
-both j a b c d e f s = subst (λ (z : Found). SameTurn j z b) (sym e) (subst (SameTurn j c) (sym f) s)
+both : (j : ℕ) (a b c d : Option ℕ) → a ≡ c → b ≡ d → SameTurn j c d → SameTurn j a b
+both j a b c d e f s = subst (λ (z : Option ℕ). SameTurn j z b) (sym e) (subst (SameTurn j c) (sym f) s)
 
 -- two sectors alike but for their tables, whose slots turn the same file
 module _ (x y : DirWrite) (j : ℕ) (shown : x.shown ≡ y.shown) (written : x.written ≡ y.written) (same : (i : ℕ) → i < 16 → SameTurn j (turned_by x i) (turned_by y i)) where
@@ -106,7 +104,7 @@ module _ (x y : DirWrite) (j : ℕ) (shown : x.shown ≡ y.shown) (written : x.w
   turns-other m n = some-none (λ i. is_at m (turned_by x i)) 16 0 (λ i h. other-row j m _ _ n (same i (omega (arith, h))))
 
 -- a sector whose slots turn nothing turns no row
-none-turned : (x : DirWrite) → ((i : ℕ) → i < 16 → turned_by x i ≡ Nothing) → (m : ℕ) → turns_row x m ≡ false
+none-turned : (x : DirWrite) → ((i : ℕ) → i < 16 → turned_by x i ≡ None) → (m : ℕ) → turns_row x m ≡ false
 unfolding turns_row picked_by is_at
 none-turned x g m = some-none (λ i. is_at m (turned_by x i)) 16 0 (λ i h. ap (is_at m) (g i (omega (arith, h))))
 
@@ -132,13 +130,13 @@ module _ (ids slots starts sizes : List ℕ) (k s : ℕ) (shown written : List �
   X = dir_write ids slots starts sizes k s shown written
 
   -- the file found alone
-  abbrev Y : Found → DirWrite
+  abbrev Y : Option ℕ → DirWrite
   Y found = dir_file (file_of ids starts sizes found) asked.n k s shown written
 
   abbrev Z : ℕ → DirWrite
   Z j = dir_write (get_or ids j 0 ∷ []) (asked.n ∷ []) (get_or starts j 0 ∷ []) (get_or sizes j 0 ∷ []) k s shown written
 
-  one-row : (j : ℕ) → Y (At j) ≡ Z j
+  one-row : (j : ℕ) → Y (Some j) ≡ Z j
   unfolding file_of last_rows
   one-row j = rw (ne_eqb (j + 1) 0 (λ z. omega (arith, z)))
 
@@ -156,52 +154,52 @@ module _ (ids slots starts sizes : List ℕ) (k s : ℕ) (shown written : List �
   asks i h e = let q = first-turned i h e in rw (← q, lt-ltb i 16 h)
 
   -- the file that it turns: of the whole table, and of the one that has it alone
-  row-x : (found : Found) → find (unturned_row asked ids slots) (length ids) ≡ found → (i : ℕ) → asked ≡ record { k = k; n = s * 16 + i } → row_of X (s * 16 + i) ≡ found
+  row-x : (found : Option ℕ) → find (unturned_row asked ids slots) (length ids) ≡ found → (i : ℕ) → asked ≡ record { k = k; n = s * 16 + i } → row_of X (s * 16 + i) ≡ found
   unfolding row_of file_at unturned_at
   row-x found e i a = subst (λ (q : Asked). find (unturned_row q ids slots) (length ids) ≡ found) a e
 
-  file-z : (j : ℕ) → find (unturned_row asked ids slots) (length ids) ≡ At j → (i : ℕ) → asked ≡ record { k = k; n = s * 16 + i } → file_at (Z j) (s * 16 + i) 0 ≡ true
+  file-z : (j : ℕ) → find (unturned_row asked ids slots) (length ids) ≡ Some j → (i : ℕ) → asked ≡ record { k = k; n = s * 16 + i } → file_at (Z j) (s * 16 + i) 0 ≡ true
   unfolding file_at
   file-z j e i a =
       at-slot k (s * 16 + i) asked.n (get_or ids j 0) (get_or slots j 0)
       (subst (λ (q : Asked). unturned_row q ids slots j ≡ true) a (find-is (unturned_row asked ids slots) (length ids) j e))
       (ap (λ (q : Asked). q.n) a)
 
-  row-z : (j : ℕ) → find (unturned_row asked ids slots) (length ids) ≡ At j → (i : ℕ) → asked ≡ record { k = k; n = s * 16 + i } → row_of (Z j) (s * 16 + i) ≡ At 0
+  row-z : (j : ℕ) → find (unturned_row asked ids slots) (length ids) ≡ Some j → (i : ℕ) → asked ≡ record { k = k; n = s * 16 + i } → row_of (Z j) (s * 16 + i) ≡ Some 0
   unfolding row_of
   row-z j e i a = find-first (file_at (Z j) (s * 16 + i)) 1 0 (omega arith) (file-z j e i a) (λ m h. absurd (omega (arith, h)))
 
-  turned-x : (found : Found) → find (unturned_row asked ids slots) (length ids) ≡ found → (i : ℕ) → i < 16 → (ltb k 3 && turned_slot shown written i) ≡ true → turned_by X i ≡ found
+  turned-x : (found : Option ℕ) → find (unturned_row asked ids slots) (length ids) ≡ found → (i : ℕ) → i < 16 → (ltb k 3 && turned_slot shown written i) ≡ true → turned_by X i ≡ found
   unfolding turned_by
   turned-x found e i h t = rw t (row-x found e i (asks i h (and-1 (ltb k 3) (turned_slot shown written i) t)))
 
-  turned-z : (j : ℕ) → find (unturned_row asked ids slots) (length ids) ≡ At j → (i : ℕ) → i < 16 → (ltb k 3 && turned_slot shown written i) ≡ true → turned_by (Z j) i ≡ At 0
+  turned-z : (j : ℕ) → find (unturned_row asked ids slots) (length ids) ≡ Some j → (i : ℕ) → i < 16 → (ltb k 3 && turned_slot shown written i) ≡ true → turned_by (Z j) i ≡ Some 0
   unfolding turned_by
   turned-z j e i h t = rw t (row-z j e i (asks i h (and-1 (ltb k 3) (turned_slot shown written i) t)))
 
-  still-x : (i : ℕ) → (ltb k 3 && turned_slot shown written i) ≡ false → turned_by X i ≡ Nothing
+  still-x : (i : ℕ) → (ltb k 3 && turned_slot shown written i) ≡ false → turned_by X i ≡ None
   unfolding turned_by
   still-x i t = rw t
 
-  still-z : (j i : ℕ) → (ltb k 3 && turned_slot shown written i) ≡ false → turned_by (Z j) i ≡ Nothing
+  still-z : (j i : ℕ) → (ltb k 3 && turned_slot shown written i) ≡ false → turned_by (Z j) i ≡ None
   unfolding turned_by
   still-z j i t = rw t
 
-  row-turns : (j : ℕ) → find (unturned_row asked ids slots) (length ids) ≡ At j → (i : ℕ) → i < 16 → SameTurn j (turned_by X i) (turned_by (Z j) i)
+  row-turns : (j : ℕ) → find (unturned_row asked ids slots) (length ids) ≡ Some j → (i : ℕ) → i < 16 → SameTurn j (turned_by X i) (turned_by (Z j) i)
   row-turns j e i h =
       either (ltb k 3 && turned_slot shown written i)
-      (λ t. both j _ _ (At j) (At 0) (turned-x (At j) e i h t) (turned-z j e i h t) row)
-      (λ t. both j _ _ Nothing Nothing (still-x i t) (still-z j i t) none)
+      (λ t. both j _ _ (Some j) (Some 0) (turned-x (Some j) e i h t) (turned-z j e i h t) row)
+      (λ t. both j _ _ None None (still-x i t) (still-z j i t) none)
 
-  none-x : find (unturned_row asked ids slots) (length ids) ≡ Nothing → (i : ℕ) → i < 16 → turned_by X i ≡ Nothing
-  none-x e i h = either (ltb k 3 && turned_slot shown written i) (turned-x Nothing e i h) (still-x i)
+  none-x : find (unturned_row asked ids slots) (length ids) ≡ None → (i : ℕ) → i < 16 → turned_by X i ≡ None
+  none-x e i h = either (ltb k 3 && turned_slot shown written i) (turned-x None e i h) (still-x i)
 
-  none-y : (i : ℕ) → turned_by (Y Nothing) i ≡ Nothing
+  none-y : (i : ℕ) → turned_by (Y None) i ≡ None
   unfolding turned_by row_of find found_below first_of file_of last_rows
-  none-y i = pick-has (λ (r : Found). r ≡ Nothing) (ltb k 3 && turned_slot shown written i) _ Nothing refl refl
+  none-y i = pick-has (λ (r : Option ℕ). r ≡ None) (ltb k 3 && turned_slot shown written i) _ None refl refl
 
-  none-turns : find (unturned_row asked ids slots) (length ids) ≡ Nothing → (i : ℕ) → i < 16 → SameTurn 0 (turned_by X i) (turned_by (Y Nothing) i)
-  none-turns e i h = both 0 _ _ Nothing Nothing (none-x e i h) (none-y i) none
+  none-turns : find (unturned_row asked ids slots) (length ids) ≡ None → (i : ℕ) → i < 16 → SameTurn 0 (turned_by X i) (turned_by (Y None) i)
+  none-turns e i h = both 0 _ _ None None (none-x e i h) (none-y i) none
 
   -- what is marked
   module _ (fat area : List ℕ) (st : List St) where
@@ -213,13 +211,13 @@ module _ (ids slots starts sizes : List ℕ) (k s : ℕ) (shown written : List �
     unfolding dir_id turn_id
     turns j id e = rw e
 
-    ids-none : find (unturned_row asked ids slots) (length ids) ≡ Nothing → dir_ids X fat area st ≡ ids
+    ids-none : find (unturned_row asked ids slots) (length ids) ≡ None → dir_ids X fat area st ≡ ids
     unfolding dir_ids
     ids-none e =
         pick-has (λ (l : List ℕ). l ≡ ids) (eqb (dir_number X) 0) (rows_of (dir_id X fat area st) ids) ids
         (rows-stay (dir_id X fat area st) ids (λ m. stays m (get_or ids m 0) (none-turned X (none-x e) m))) refl
 
-    ids-row : (j : ℕ) → find (unturned_row asked ids slots) (length ids) ≡ At j → dir_ids X fat area st ≡ set ids j (get_or (dir_ids (Z j) fat area st) 0 (get_or ids j 0))
+    ids-row : (j : ℕ) → find (unturned_row asked ids slots) (length ids) ≡ Some j → dir_ids X fat area st ≡ set ids j (get_or (dir_ids (Z j) fat area st) 0 (get_or ids j 0))
     unfolding dir_ids
     ids-row j e =
         let same = row-turns j e in
@@ -234,10 +232,10 @@ module _ (ids slots starts sizes : List ℕ) (k s : ℕ) (shown written : List �
     with-row : (j v : ℕ) → set ids j v ≡ with_row ids (j + 1) v
     with-row j v = let e : j + 1 - 1 ≡ j = omega arith in rw (ne_eqb (j + 1) 0 (λ z. omega (arith, z)), e)
 
-    pub alike : (found : Found) → find (unturned_row asked ids slots) (length ids) ≡ found → Alike (Y found) (file_of ids starts sizes found).n (file_of ids starts sizes found).id
+    pub alike : (found : Option ℕ) → find (unturned_row asked ids slots) (length ids) ≡ found → Alike (Y found) (file_of ids starts sizes found).n (file_of ids starts sizes found).id
     unfolding file_of
-    alike Nothing e = let same = none-turns e in (number-same X (Y Nothing) 0 refl refl same, changed-same X (Y Nothing) 0 refl refl same, ids-none e)
-    alike (At j) e =
+    alike None e = let same = none-turns e in (number-same X (Y None) 0 refl refl same, changed-same X (Y None) 0 refl refl same, ids-none e)
+    alike (Some j) e =
         let same = row-turns j e in
         subst (λ (y : DirWrite). Alike y (j + 1) (get_or ids j 0)) (sym (one-row j))
         (number-same X (Z j) j refl refl same, changed-same X (Z j) j refl refl same, ids-row j e ∙ with-row j _)

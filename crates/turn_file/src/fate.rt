@@ -7,7 +7,7 @@ use crate::turns::{asked_in, one_turn};
 use dir_sectors::dir;
 use last_file::{LastFile, last_rows};
 use state::w::{NST, St};
-use vdisk::drive::{DirKind, Place, dir_kind, place_of};
+use vdisk::drive::{Place, dir_kind, place_of};
 
 // Is it so judged; the refusal number, 0 where the sector is taken; whether that opens the session; the file's id then.
 #[derive(Clone, Copy)]
@@ -110,8 +110,8 @@ fn cluster_fate(
     ensures { result ≡ cluster_fate f s g.now d.now fat.now area.now st (dir_kind_of c) }
 {
     match dir_kind(c) {
-        DirKind::Kind(k) => dir_fate(f, k, s, g, d, fat, area, st),
-        DirKind::NoDir => not_settled(f),
+        Some(k) => dir_fate(f, k, s, g, d, fat, area, st),
+        None => not_settled(f),
     }
 }
 

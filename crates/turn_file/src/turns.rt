@@ -5,7 +5,7 @@ ghost use Rattle.turn_file.specs.TurnFile.{first_turn, no_file, asked_in, asked_
 
 use crate::Asked;
 use slots::dates::is_turn;
-use vdisk::drive::{DirKind, dir_kind};
+use vdisk::drive::dir_kind;
 
 // Of no file: directory 3 shows none.
 pub fn no_file() -> Asked
@@ -19,14 +19,12 @@ fn first_turn(g: &[u8], d: &[u8]) -> u32
     requires { (length g.now ≡ 512) × (length d.now ≡ 512) }
     ensures { result ≡ first_turn g.now d.now }
 {
-    let mut i = 0;
-    while i < 16 {
+    for i in 0..16 {
         if is_turn(g, d, i as usize * 32) {
             return i;
         }
-        i += 1;
     }
-    i
+    16
 }
 
 // Is no slot turned but the first that is.
@@ -35,16 +33,13 @@ pub fn one_turn(g: &[u8], d: &[u8]) -> bool
     ensures { result ≡ one_turn g.now d.now }
 {
     let first = first_turn(g, d);
-    let mut i = 0;
-    while i < 16 {
+    for i in 0..16 {
         if i == first {
-            i += 1;
             continue;
         }
         if is_turn(g, d, i as usize * 32) {
             return false;
         }
-        i += 1;
     }
     true
 }
@@ -70,7 +65,7 @@ pub fn asked_of(c: u32, s: u32, g: &[u8], d: &[u8]) -> Asked
     ensures { result ≡ asked_of (dir_kind_of c) s g.now d.now }
 {
     match dir_kind(c) {
-        DirKind::Kind(k) => asked_in(k, s, g, d),
-        DirKind::NoDir => no_file(),
+        Some(k) => asked_in(k, s, g, d),
+        None => no_file(),
     }
 }

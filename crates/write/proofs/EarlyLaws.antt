@@ -1,5 +1,5 @@
 -- What is settled without the table and the rest of the state; it is what `write` leaves.
-use Rattle.std.specs.Prelude.{ℕ, ◌≤◌, ◌<◌, max, Bool, not, ◌&&◌, ◌||◌, List, ◌≡◌, eqb, ltb, leb, length}
+use Rattle.std.specs.Prelude.{ℕ, ◌≤◌, ◌<◌, max, Bool, not, ◌&&◌, ◌||◌, List, ◌≡◌, eqb, ltb, leb, length, Option, Some, None}
 use Rattle.std.proofs.Math.Bool.{true, false}
 use Rattle.std.proofs.lemmas.Bool.{false≢true}
 use Rattle.std.proofs.Math.Path.{refl}
@@ -12,8 +12,6 @@ use Rattle.sector.specs.Bytes.{same}
 use Rattle.vdisk.specs.Drive.{total, place_of, dir_kind_of}
 use Rattle.vdisk.specs.declared.drive.Place.{Place}
 use Rattle.vdisk.specs.declared.drive.Place.TheVariants.{Boot, Fat, Root, Data, Outside}
-use Rattle.vdisk.specs.declared.drive.DirKind.{DirKind}
-use Rattle.vdisk.specs.declared.drive.DirKind.TheVariants.{Kind, NoDir}
 use Rattle.state.specs.Setters.{with_session, with_last, with_err, with_n}
 use Rattle.state.specs.declared.w.Stats.{Stats}
 use Rattle.state.specs.declared.w.W.{W}
@@ -55,10 +53,10 @@ module _ (x : SectorWrite) (w : W) where
   counted-0 = refl
 
   -- a sector equal to the shown one
-  same-in : (k : DirKind) (c n : ℕ) → is_directory k ≡ true → same x.shown x.written ≡ true → cluster x w c n k ≡ refused x w 0
+  same-in : (k : Option ℕ) (c n : ℕ) → is_directory k ≡ true → same x.shown x.written ≡ true → cluster x w c n k ≡ refused x w 0
   unfolding cluster unless_shown is_directory
-  same-in (Kind k) c n u s = rw s
-  same-in NoDir c n u s = absurd (false≢true u)
+  same-in (Some k) c n u s = rw s
+  same-in None c n u s = absurd (false≢true u)
 
   same-at : (p : Place) → unstaged_at p ≡ true → same x.shown x.written ≡ true → at_place x w p ≡ refused x w 0
   unfolding at_place unless_shown unstaged_at

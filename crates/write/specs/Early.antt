@@ -1,13 +1,11 @@
 -- What is settled without the table and the rest of the state.
-use Rattle.std.specs.Prelude.{ℕ, max, Bool, true, false, not, ◌&&◌, ◌||◌, List, eqb, ltb, leb, length}
+use Rattle.std.specs.Prelude.{ℕ, max, Bool, true, false, not, ◌&&◌, ◌||◌, List, eqb, ltb, leb, length, Option, Some, None}
 use Rattle.loops.specs.Loops.{pick}
 use Rattle.file_table.specs.Table.{max_files}
 use Rattle.sector.specs.Bytes.{same}
 use Rattle.vdisk.specs.Drive.{total, place_of, dir_kind_of}
 use Rattle.vdisk.specs.declared.drive.Place.{Place}
 use Rattle.vdisk.specs.declared.drive.Place.TheVariants.{Boot, Fat, Root, Data, Outside}
-use Rattle.vdisk.specs.declared.drive.DirKind.{DirKind}
-use Rattle.vdisk.specs.declared.drive.DirKind.TheVariants.{Kind, NoDir}
 use Rattle.state.specs.Setters.{with_last, with_err, with_n}
 use Rattle.state.specs.declared.w.Stats.{Stats}
 use Rattle.state.specs.declared.w.W.{W}
@@ -15,9 +13,9 @@ use Rattle.write.specs.declared.early.Early.{Early}
 use Rattle.write.specs.declared.early.Tally.{Tally}
 use Rattle.write.specs.Write.{count_ok, count_refused, error_of}
 
-unfoldable pub is_directory : DirKind → Bool
-is_directory (Kind k) = true
-is_directory NoDir = false
+unfoldable pub is_directory : Option ℕ → Bool
+is_directory (Some k) = true
+is_directory None = false
 
 -- a place whose sectors are never staged
 unfoldable pub unstaged_at : Place → Bool

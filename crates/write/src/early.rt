@@ -7,7 +7,7 @@ use crate::lent::whole_sectors;
 use crate::settle::error_of;
 use file_table::MAX_VF;
 use state::w::Stats;
-use vdisk::drive::{DirKind, Place, TOTAL, dir_kind, place_of};
+use vdisk::drive::{Place, TOTAL, dir_kind, place_of};
 
 // Is the sector settled already, and with which number.
 #[derive(Clone, Copy)]
@@ -27,7 +27,7 @@ pub struct Tally {
 fn is_directory(c: u32) -> bool
     ensures { result ≡ is_directory (dir_kind_of c) }
 {
-    let DirKind::Kind(_) = dir_kind(c) else {
+    let Some(_) = dir_kind(c) else {
         return false;
     };
     true

@@ -1,4 +1,3 @@
-use Prim.Native.Nat.{◌≤◌, ◌-◌}
 use mathlib.Core.List.{◌++◌}
 use mathlib.Core.Path.{◌≡◌}
 use lib.ListN.{length, take, drop}
@@ -7,7 +6,4 @@ use Rattle.dir_sectors.specs.DirLaws.{mark_id}
 use Rattle.dir_sectors.proofs.mark_rows.Given as goal
 
 abbrev pub invariant-loop-j : goal.invariant-loop-j
-invariant-loop-j l = (l.j ≤ length l.initial.ids) × (length l.ids ≡ length l.initial.ids) × (l.ids ≡ take l.j (rows_of (mark_id l.rows l.starts l.sizes l.fat l.area l.st) l.initial.ids) ++ drop l.j l.initial.ids)
-
-abbrev pub decreases-loop-j : goal.decreases-loop-j
-decreases-loop-j l = length l.initial.ids - l.j
+invariant-loop-j l = (length l.ids ≡ length l.initial.ids) × (l.ids ≡ take l.j (rows_of (mark_id l.rows l.starts l.sizes l.fat l.area l.st) l.initial.ids) ++ drop l.j l.initial.ids)

@@ -43,10 +43,10 @@ loop-i-preserved-in_default c = let e = c.next_changed-i-in-loop-i.ensures in
     )
 
 pub offset_bounds-kept-k : goal.offset_bounds-kept-k
-offset_bounds-kept-k c = omega (arith, place_of-lt _ _ _ (sym c.place_of.ensures ∙ c.in-At.is))
+offset_bounds-kept-k c = omega (arith, place_of-lt _ _ _ (sym c.place_of.ensures ∙ c.in-Some.is))
 
 pub bounds-kept-k : goal.bounds-kept-k
-bounds-kept-k c = place_of-lt _ _ _ (sym c.place_of.ensures ∙ c.in-At.is)
+bounds-kept-k c = place_of-lt _ _ _ (sym c.place_of.ensures ∙ c.in-Some.is)
 
 pub loop-i-smaller : goal.loop-i-smaller
 loop-i-smaller c = let e = skip-ge _ 16 _ _ (omega arith) c.next_changed-i-in-loop-i.ensures in omega arith
@@ -58,7 +58,7 @@ loop-i-preserved c = let e = c.next_changed-i-in-loop-i.ensures in
     let one = keeping-one _ _ _ _ _ _ _ l c.loop-i.invariant.2 (and-of _ _ (c.loop-i.invariant.1 l) (ap not (lt-leb _ _ c.if-slot-le6.false))) in (
       skip-le _ 16 _ _ (omega arith) e,
       skip-at _ 16 _ _ (omega arith) e,
-      keeping-on _ _ _ _ _ _ _ _ (omega arith) e (simp (sym c.place_of.ensures ∙ c.in-At.is, ← c.copied-e.ensures) at one),
+      keeping-on _ _ _ _ _ _ _ _ (omega arith) e (simp (sym c.place_of.ensures ∙ c.in-Some.is, ← c.copied-e.ensures) at one),
     )
 
 pub returns : goal.returns

@@ -2,10 +2,10 @@ use mathlib.Core.Path.{sym, ◌∙◌}
 use Rattle.root_sectors.specs.Root.{place_of}
 use Rattle.root_sectors.proofs.place_of.Goals as goal
 
-pub returns-in-At : goal.returns-in-At
+pub returns-in-Some : goal.returns-in-Some
 unfolding place_of
-returns-in-At c = simp (sym c.rec_idx.ensures ∙ c.in-At.is)
+returns-in-Some c = simp (sym c.rec_idx.ensures ∙ c.in-Some.is)
 
-pub returns-in-Nothing : goal.returns-in-Nothing
+pub returns-in-None : goal.returns-in-None
 unfolding place_of
-returns-in-Nothing c = simp (sym c.rec_idx.ensures ∙ c.in-Nothing.is) c.free_rec.ensures
+returns-in-None c = simp (sym c.rec_idx.ensures ∙ c.in-None.is) c.free_rec.ensures

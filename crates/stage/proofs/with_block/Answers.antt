@@ -1,10 +1,9 @@
-use mathlib.Core.Path.{refl, sym, ◌∙◌, ap}
+use mathlib.Core.Path.{refl, sym, ◌∙◌}
 use lib.Dec.{eqb}
-use borrow.Author.Tests.{eqb-false, not-false, not-true}
+use borrow.Author.Tests.{eqb-false}
 use Rattle.loops.specs.Choices.{or-no}
-use Rattle.medium.specs.declared.blocks.NextFree.{NextFree}
 use Rattle.staging.specs.Blocks.{is_parked, held_for}
-use Rattle.stage.specs.StageLaws.{free-none, free-found, found-inside, few-blocks, held-in}
+use Rattle.stage.specs.StageLaws.{free-none, free-some, few-blocks, held-in}
 use Rattle.stage.specs.Fates.{block_fate, meets-by}
 use Rattle.stage.proofs.with_block.Goals as goal
 
@@ -21,14 +20,20 @@ returns-then-not-needs_block c = let n = sym c.needs_block.ensures ∙ c.if-not-
 pub next_free-f-requires : goal.next_free-f-requires
 next_free-f-requires c = few-blocks _ _ c.requires.medium
 
--- src/lib.rt:95:9
-pub returns-then-not-f : goal.returns-then-not-f
-returns-then-not-f c = meets-by (free-none _ _ _ _ _ _ c.next_free-f.result (sym c.needs_block.ensures ∙ c.if-not-needs_block.false) c.next_free-f.ensures ((not-true _ c.if-not-f.true))) (record { fate = refl; medium = refl })
+pub returns-in_default : goal.returns-in_default
+returns-in_default c =
+    let r = c.next_free-f.ensures in
+    let n = sym c.needs_block.ensures ∙ c.if-not-needs_block.false in
+    meets-by (free-none _ _ _ _ _ _ c.next_free-f.result.block c.next_free-f.result.hint n r.block r.hint c.in_default.is) (record { fate = refl; medium = refl })
 
--- src/lib.rt:103:5
 pub into_block-requires-2 : goal.into_block-requires-2
-into_block-requires-2 c = record { lent = c.requires.lent; inside = λ e. rw c.next_free-f.ensures (found-inside c.args.fat.now c.args.area.now c.args.hint c.requires.medium (ap (λ (n : NextFree). n.found) (sym c.next_free-f.ensures) ∙ not-false _ c.if-not-f.false)) }
+into_block-requires-2 c =
+    let r = c.next_free-f.ensures in
+    let n = sym c.needs_block.ensures ∙ c.if-not-needs_block.false in
+    record { lent = c.requires.lent; inside = λ e. (free-some c.args.s c.args.d.now c.args.fat.now c.args.area.now c.args.y c.args.hint c.next_free-f.result.block c.next_free-f.result.hint n r.block r.hint c.requires.medium _ c.in-Some.is).1 }
 
--- src/lib.rt:84:1
 pub returns : goal.returns
-returns c = meets-by (free-found _ _ _ _ _ _ c.next_free-f.result (sym c.needs_block.ensures ∙ c.if-not-needs_block.false) c.next_free-f.ensures ((not-false _ c.if-not-f.false))) c.into_block-2.ensures
+returns c =
+    let r = c.next_free-f.ensures in
+    let n = sym c.needs_block.ensures ∙ c.if-not-needs_block.false in
+    meets-by (free-some _ _ _ _ _ _ c.next_free-f.result.block c.next_free-f.result.hint n r.block r.hint c.requires.medium _ c.in-Some.is).0 c.into_block-2.ensures

@@ -15,7 +15,6 @@ loop-i-preserved c =
     let l = c.loop-i in
     let h : l.i < length c.args.files.now = omega arith in
     record {
-      within = omega arith;
       rows = l.invariant.rows;
       done = rw (add-one, c.noted_id-id.ensures, l.invariant.done) (map-more (noted_file c.args.d.now) l.i c.args.files.now _ h);
     }

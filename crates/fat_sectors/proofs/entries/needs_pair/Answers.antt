@@ -3,6 +3,7 @@ use borrow.Author.Tests.{eq-eqb, ne_eqb}
 use Rattle.clusters.specs.Clusters.{host_cluster}
 use Rattle.fat_sectors.specs.Fat.{needs_pair}
 use borrow.Author.Rules.{rules}
+use Rattle.clusters.proofs.Nothing.{nothing-of}
 use Rattle.fat_sectors.proofs.entries.needs_pair.Goals as goal
 
 pub returns-then-not-is_changed : goal.returns-then-not-is_changed
@@ -22,4 +23,4 @@ returns-then-le16-eq0 c = simp (sym c.is_changed.ensures ∙ c.if-not-is_changed
 
 pub returns : goal.returns
 unfolding needs_pair host_cluster
-returns c = simp (sym c.is_changed.ensures ∙ c.if-not-is_changed.false, sym c.host_cluster.ensures ∙ c.if-not-host_cluster.false, ne_eqb _ _ (λ e. c.if-le16-eq0.false (c.le16.ensures ∙ e)), ← c.pair_idx.ensures) c.is_nothing.ensures
+returns c = simp (sym c.is_changed.ensures ∙ c.if-not-is_changed.false, sym c.host_cluster.ensures ∙ c.if-not-host_cluster.false, ne_eqb _ _ (λ e. c.if-le16-eq0.false (c.le16.ensures ∙ e)), ← c.pair_idx.ensures) (nothing-of _ _ c.is_none.ensures)

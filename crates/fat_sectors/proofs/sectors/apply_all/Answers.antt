@@ -138,11 +138,11 @@ unused_slot-unused-requires c = tt
 
 -- src/sectors.rt:150:17
 pub offset_bounds-out-m : goal.offset_bounds-out-m
-offset_bounds-out-m c = omega (arith, slot_of-lt _ _ _ (sym c.slot_of.ensures ∙ c.in-At.is))
+offset_bounds-out-m c = omega (arith, slot_of-lt _ _ _ (sym c.slot_of.ensures ∙ c.in-Some.is))
 
 -- src/sectors.rt:150:17
 pub bounds-out-m : goal.bounds-out-m
-bounds-out-m c = slot_of-lt _ _ _ (sym c.slot_of.ensures ∙ c.in-At.is)
+bounds-out-m c = slot_of-lt _ _ _ (sym c.slot_of.ensures ∙ c.in-Some.is)
 
 -- src/sectors.rt:123:5
 pub loop-i-smaller : goal.loop-i-smaller
@@ -152,7 +152,7 @@ loop-i-smaller c = omega (arith, c.next_changed-i-in-loop-i.ensures, next-past c
 pub loop-i-preserved : goal.loop-i-preserved
 unfolding with_pair with_st
 loop-i-preserved c = let l : length c.args.starts.now ≤ max_files = omega (arith, c.requires.lent.0.few, c.requires.lent.0.ids-starts) in let f = sym (marked-owner _ _ c.requires.marked l _) ∙ sym c.is_freed.ensures ∙ c.if-is_freed.false in let t = c.loop-i-test.true in let v = c.loop-i.invariant in
-    rw (c.next_changed-i-in-loop-i.ensures, c.unused_slot-unused.ensures) (applied-turn _ _ _ _ _ v t (pair-entry _ _ _ (v.1 t) c.if-c-eq1.false f ∙ ap (set_pair _ _) (sym c.le16-v.ensures) ∙ removed _ _ _ _ _ (rw c.in-Remove.is at c.pair_store.ensures) (sym c.slot_of.ensures ∙ c.in-At.is)))
+    rw (c.next_changed-i-in-loop-i.ensures, c.unused_slot-unused.ensures) (applied-turn _ _ _ _ _ v t (pair-entry _ _ _ (v.1 t) c.if-c-eq1.false f ∙ ap (set_pair _ _) (sym c.le16-v.ensures) ∙ removed _ _ _ _ _ (rw c.in-Remove.is at c.pair_store.ensures) (sym c.slot_of.ensures ∙ c.in-Some.is)))
 
 -- src/sectors.rt:105:1
 pub returns : goal.returns

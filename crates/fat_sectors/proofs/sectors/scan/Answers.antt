@@ -66,41 +66,41 @@ freed_by-requires c = (c.requires, c.loop-i-test.true)
 
 -- src/sectors.rt:75:17
 pub bounds-out-j : goal.bounds-out-j
-bounds-out-j c = omega (arith, freed_by-lt _ _ _ (sym c.freed_by.ensures ∙ c.in-At.is), c.requires.few, c.requires.ids-starts)
+bounds-out-j c = omega (arith, freed_by-lt _ _ _ (sym c.freed_by.ensures ∙ c.in-Some.is), c.requires.few, c.requires.ids-starts)
 
 -- src/sectors.rt:76:40
-pub overflow_add-i-in-At : goal.overflow_add-i-in-At
-overflow_add-i-in-At c = omega (arith, c.loop-i-test.true)
+pub overflow_add-i-in-Some : goal.overflow_add-i-in-Some
+overflow_add-i-in-Some c = omega (arith, c.loop-i-test.true)
 
 -- src/sectors.rt:76:17
-pub next_changed-i-requires-in-At : goal.next_changed-i-requires-in-At
-next_changed-i-requires-in-At c = (c.requires.shown-512, c.requires.written-512, omega (arith, c.loop-i-test.true))
+pub next_changed-i-requires-in-Some : goal.next_changed-i-requires-in-Some
+next_changed-i-requires-in-Some c = (c.requires.shown-512, c.requires.written-512, omega (arith, c.loop-i-test.true))
 
 -- src/sectors.rt:62:5
-pub loop-i-smaller-in-At : goal.loop-i-smaller-in-At
-loop-i-smaller-in-At c = omega (arith, c.next_changed-i-in-At.ensures, next-past c.args.g.now c.args.d.now (c.loop-i.i + 1) (omega (arith, c.loop-i-test.true)), c.loop-i-test.true)
+pub loop-i-smaller-in-Some : goal.loop-i-smaller-in-Some
+loop-i-smaller-in-Some c = omega (arith, c.next_changed-i-in-Some.ensures, next-past c.args.g.now c.args.d.now (c.loop-i.i + 1) (omega (arith, c.loop-i-test.true)), c.loop-i-test.true)
 
 -- src/sectors.rt:62:5
-pub loop-i-preserved-in-At : goal.loop-i-preserved-in-At
-loop-i-preserved-in-At c = let v = c.loop-i.invariant.0 in let l = c.loop-i-test.true in let f = sym c.freed_by.ensures ∙ c.in-At.is in let j = freed_by-lt _ _ _ f in
-    (rw c.next_changed-i-in-At.ensures (scan-skips _ _ _ (c.loop-i.i + 1) (omega (arith, l), omega (arith, v.1), first-go _ _ _ _ v.2 l (ap not (eq-eqb _ _ (sym c.entry_number-no.ensures ∙ c.if-no-ne0.false))), count-no _ _ _ _ _ v.3 l (sym c.needs_pair.ensures ∙ c.if-needs_pair.false), marks-put _ _ _ _ v.4 _ (omega (arith, j, c.loop-i.invariant.1, c.requires.few, c.requires.ids-starts)) f)), simp length-set c.loop-i.invariant.1, c.loop-i.invariant.2)
+pub loop-i-preserved-in-Some : goal.loop-i-preserved-in-Some
+loop-i-preserved-in-Some c = let v = c.loop-i.invariant.0 in let l = c.loop-i-test.true in let f = sym c.freed_by.ensures ∙ c.in-Some.is in let j = freed_by-lt _ _ _ f in
+    (rw c.next_changed-i-in-Some.ensures (scan-skips _ _ _ (c.loop-i.i + 1) (omega (arith, l), omega (arith, v.1), first-go _ _ _ _ v.2 l (ap not (eq-eqb _ _ (sym c.entry_number-no.ensures ∙ c.if-no-ne0.false))), count-no _ _ _ _ _ v.3 l (sym c.needs_pair.ensures ∙ c.if-needs_pair.false), marks-put _ _ _ _ v.4 _ (omega (arith, j, c.loop-i.invariant.1, c.requires.few, c.requires.ids-starts)) f)), simp length-set c.loop-i.invariant.1, c.loop-i.invariant.2)
 
 -- src/sectors.rt:79:40
-pub overflow_add-i-in-Nothing : goal.overflow_add-i-in-Nothing
-overflow_add-i-in-Nothing c = omega (arith, c.loop-i-test.true)
+pub overflow_add-i-in-None : goal.overflow_add-i-in-None
+overflow_add-i-in-None c = omega (arith, c.loop-i-test.true)
 
 -- src/sectors.rt:79:17
-pub next_changed-i-requires-in-Nothing : goal.next_changed-i-requires-in-Nothing
-next_changed-i-requires-in-Nothing c = (c.requires.shown-512, c.requires.written-512, omega (arith, c.loop-i-test.true))
+pub next_changed-i-requires-in-None : goal.next_changed-i-requires-in-None
+next_changed-i-requires-in-None c = (c.requires.shown-512, c.requires.written-512, omega (arith, c.loop-i-test.true))
 
 -- src/sectors.rt:62:5
 pub loop-i-smaller : goal.loop-i-smaller
-loop-i-smaller c = omega (arith, c.next_changed-i-in-Nothing.ensures, next-past c.args.g.now c.args.d.now (c.loop-i.i + 1) (omega (arith, c.loop-i-test.true)), c.loop-i-test.true)
+loop-i-smaller c = omega (arith, c.next_changed-i-in-None.ensures, next-past c.args.g.now c.args.d.now (c.loop-i.i + 1) (omega (arith, c.loop-i-test.true)), c.loop-i-test.true)
 
 -- src/sectors.rt:62:5
 pub loop-i-preserved : goal.loop-i-preserved
 loop-i-preserved c = let v = c.loop-i.invariant.0 in let l = c.loop-i-test.true in
-    (rw c.next_changed-i-in-Nothing.ensures (scan-skips _ _ _ (c.loop-i.i + 1) (omega (arith, l), omega (arith, v.1), first-go _ _ _ _ v.2 l (ap not (eq-eqb _ _ (sym c.entry_number-no.ensures ∙ c.if-no-ne0.false))), count-no _ _ _ _ _ v.3 l (sym c.needs_pair.ensures ∙ c.if-needs_pair.false), marks-keep _ _ _ _ v.4 (sym c.freed_by.ensures ∙ c.in-Nothing.is))), c.loop-i.invariant.1, c.loop-i.invariant.2)
+    (rw c.next_changed-i-in-None.ensures (scan-skips _ _ _ (c.loop-i.i + 1) (omega (arith, l), omega (arith, v.1), first-go _ _ _ _ v.2 l (ap not (eq-eqb _ _ (sym c.entry_number-no.ensures ∙ c.if-no-ne0.false))), count-no _ _ _ _ _ v.3 l (sym c.needs_pair.ensures ∙ c.if-needs_pair.false), marks-keep _ _ _ _ v.4 (sym c.freed_by.ensures ∙ c.in-None.is))), c.loop-i.invariant.1, c.loop-i.invariant.2)
 
 -- src/sectors.rt:83:8
 pub free_pairs-requires : goal.free_pairs-requires

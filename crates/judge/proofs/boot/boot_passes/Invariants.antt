@@ -1,4 +1,4 @@
-use Prim.Native.Nat.{◌≤◌, ◌-◌}
+use Prim.Native.Nat.{◌-◌}
 use mathlib.Core.Bool.{◌||◌}
 use mathlib.Core.Path.{◌≡◌}
 use lib.Dec.{eqb}
@@ -7,7 +7,4 @@ use Rattle.sector.specs.Bytes.{same_at}
 use Rattle.judge.proofs.boot.boot_passes.Given as goal
 
 abbrev pub invariant-loop-i : goal.invariant-loop-i
-invariant-loop-i l = (l.i ≤ 512) × (all (λ n. eqb n 0x25 || same_at l.g l.d n) 512 0 ≡ all (λ n. eqb n 0x25 || same_at l.g l.d n) (512 - l.i) l.i)
-
-abbrev pub decreases-loop-i : goal.decreases-loop-i
-decreases-loop-i l = 512 - l.i
+invariant-loop-i l = all (λ n. eqb n 0x25 || same_at l.g l.d n) 512 0 ≡ all (λ n. eqb n 0x25 || same_at l.g l.d n) (512 - l.i) l.i

@@ -8,8 +8,8 @@ returns-in_default c = let e = sym c.dir_kind.ensures ∙ c.in_default.is in let
 
 pub returns-then-equal : goal.returns-then-equal
 unfolding cluster unless_shown
-returns-then-equal c = let e = sym c.dir_kind.ensures ∙ c.in-Kind.is in let q = sym c.equal.ensures ∙ c.if-equal.true in record { number = simp (e, q); changed = simp (e, q); state = simp (e, q); table = simp (e, q); medium = simp (e, q) }
+returns-then-equal c = let e = sym c.dir_kind.ensures ∙ c.in-Some.is in let q = sym c.equal.ensures ∙ c.if-equal.true in record { number = simp (e, q); changed = simp (e, q); state = simp (e, q); table = simp (e, q); medium = simp (e, q) }
 
 pub returns : goal.returns
 unfolding cluster unless_shown dir
-returns c = let e = sym c.dir_kind.ensures ∙ c.in-Kind.is in let q = sym c.equal.ensures ∙ c.if-equal.false in let b = c.dir-o.ensures in record { number = simp (e, q) b.number; changed = simp (e, q) b.changed; state = simp (e, q); table = simp (e, q) b.table; medium = simp (e, q) }
+returns c = let e = sym c.dir_kind.ensures ∙ c.in-Some.is in let q = sym c.equal.ensures ∙ c.if-equal.false in let b = c.dir-o.ensures in record { number = simp (e, q) b.number; changed = simp (e, q) b.changed; state = simp (e, q); table = simp (e, q) b.table; medium = simp (e, q) }

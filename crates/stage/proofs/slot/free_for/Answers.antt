@@ -10,4 +10,4 @@ returns-in_default c = simp (sym c.free_slot.ensures ∙ c.in_default.is)
 -- src/slot.rt:95:1
 pub returns : goal.returns
 unfolding free_for
-returns c = simp (sym c.free_slot.ensures ∙ c.in-At.is)
+returns c = simp (sym c.free_slot.ensures ∙ c.in-Some.is)

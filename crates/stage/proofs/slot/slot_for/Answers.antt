@@ -16,13 +16,13 @@ returns-in_default c = simp (c.if-settled.false, sym c.slot_of.ensures ∙ c.in_
 
 -- src/slot.rt:133:13
 pub offset_bounds-st-i : goal.offset_bounds-st-i
-offset_bounds-st-i c = omega (arith, slot_of-lt _ _ _ (sym c.slot_of.ensures ∙ c.in-At.is))
+offset_bounds-st-i c = omega (arith, slot_of-lt _ _ _ (sym c.slot_of.ensures ∙ c.in-Some.is))
 
 -- src/slot.rt:133:13
 pub bounds-st-i : goal.bounds-st-i
-bounds-st-i c = slot_of-lt _ _ _ (sym c.slot_of.ensures ∙ c.in-At.is)
+bounds-st-i c = slot_of-lt _ _ _ (sym c.slot_of.ensures ∙ c.in-Some.is)
 
 -- src/slot.rt:118:1
 pub returns : goal.returns
 unfolding slot_in found_for
-returns c = simp (c.if-settled.false, sym c.slot_of.ensures ∙ c.in-At.is)
+returns c = simp (c.if-settled.false, sym c.slot_of.ensures ∙ c.in-Some.is)

@@ -10,4 +10,4 @@ returns-in_default c = simp (sym c.dir_kind.ensures ∙ c.in_default.is) c.last_
 -- src/data.rt:33:1
 pub returns : goal.returns
 unfolding decided_in
-returns c = simp (sym c.dir_kind.ensures ∙ c.in-Kind.is)
+returns c = simp (sym c.dir_kind.ensures ∙ c.in-Some.is)

@@ -10,4 +10,4 @@ returns-in_default c = simp (sym c.dir_kind.ensures ∙ c.in_default.is)
 -- src/own.rt:16:1
 pub returns : goal.returns
 unfolding plain_number
-returns c = simp (sym c.dir_kind.ensures ∙ c.in-Kind.is)
+returns c = simp (sym c.dir_kind.ensures ∙ c.in-Some.is)

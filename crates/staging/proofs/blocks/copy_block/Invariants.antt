@@ -1,4 +1,4 @@
-use Prim.Native.Nat.{◌≤◌, ◌-◌, ◌*◌}
+use Prim.Native.Nat.{◌-◌, ◌*◌}
 use mathlib.Core.Path.{◌≡◌}
 use lib.ListN.{length}
 use lib.Seq.{paste}
@@ -6,7 +6,4 @@ use Rattle.medium.specs.Medium.{block_of}
 use Rattle.staging.proofs.blocks.copy_block.Given as goal
 
 abbrev pub invariant-loop-j : goal.invariant-loop-j
-invariant-loop-j l = (l.j ≤ 4096) × (length l.area ≡ length l.initial.area) × (l.area ≡ paste l.initial.area ((l.b - 2) * 4096) (block_of l.initial.area l.from) l.j)
-
-abbrev pub decreases-loop-j : goal.decreases-loop-j
-decreases-loop-j l = 4096 - l.j
+invariant-loop-j l = (length l.area ≡ length l.initial.area) × (l.area ≡ paste l.initial.area ((l.b - 2) * 4096) (block_of l.initial.area l.from) l.j)

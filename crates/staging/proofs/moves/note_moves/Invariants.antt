@@ -1,4 +1,3 @@
-use Prim.Native.Nat.{◌≤◌, ◌-◌}
 use mathlib.Core.List.{◌++◌}
 use mathlib.Core.Path.{◌≡◌}
 use lib.ListN.{length, take, drop}
@@ -8,7 +7,4 @@ use Rattle.staging.specs.MoveLaws.{table_write}
 use Rattle.staging.proofs.moves.note_moves.Given as goal
 
 abbrev pub invariant-loop-j : goal.invariant-loop-j
-invariant-loop-j l = (l.j ≤ length l.initial.ids) × (length l.ids ≡ length l.initial.ids) × (l.ids ≡ take l.j (rows (move_id (table_write l.initial.ids l.starts l.sizes l.d)) l.initial.ids) ++ drop l.j l.initial.ids)
-
-abbrev pub decreases-loop-j : goal.decreases-loop-j
-decreases-loop-j l = length l.initial.ids - l.j
+invariant-loop-j l = (length l.ids ≡ length l.initial.ids) × (l.ids ≡ take l.j (rows (move_id (table_write l.initial.ids l.starts l.sizes l.d)) l.initial.ids) ++ drop l.j l.initial.ids)

@@ -8,4 +8,4 @@ returns-in_default c = simp (sym c.dir_kind.ensures ∙ c.in_default.is)
 
 pub returns : goal.returns
 unfolding is_directory
-returns c = simp (sym c.dir_kind.ensures ∙ c.in-Kind.is)
+returns c = simp (sym c.dir_kind.ensures ∙ c.in-Some.is)
