@@ -97,7 +97,7 @@ pub noted-length : (f : ℕ → Bool) (ids : List ℕ) → length (noted f ids) 
 noted-length f ids = rows-length (λ j id. note_id (f j) id) 0 ids
 
 -- p j i: pass i names row j
-abbrev up_to : (ℕ → ℕ → Bool) → ℕ → ℕ → Bool
+abbrev pub up_to : (ℕ → ℕ → Bool) → ℕ → ℕ → Bool
 up_to p k j = some (p j) k 0
 
 next-pass : (p : ℕ → ℕ → Bool) (k j : ℕ) → (up_to p k j || p j k) ≡ up_to p (k + 1) j

@@ -1,9 +1,11 @@
 -- A release's one pass over the staged sectors: a row that waits for a sector that names it is freed there, and the rows are settled by that.
-use Rattle.std.specs.Prelude.{ℕ, ◌+◌, ◌<◌, Bool, not, ◌&&◌, List, [], ◌∷◌, eqb, length, get_or}
+use Rattle.std.specs.Prelude.{ℕ, ◌+◌, ◌<◌, Bool, not, ◌&&◌, List, [], ◌∷◌, map, eqb, length, get_or}
 use Rattle.loops.specs.Loops.{pick, some}
 use Rattle.loops.specs.Rows.{rows}
 use Rattle.bits.specs.Bit.{set_bit}
 use Rattle.vdisk.specs.Ids.{turned, freed, gone, moved, cleared, handed}
+use Rattle.file_table.specs.Files.{id_of, with_ids}
+use Rattle.file_table.specs.declared.VF.{VF}
 use Rattle.slots.specs.Slots.{names_file, refers_to}
 use Rattle.state.specs.declared.w.St.{St}
 use Rattle.medium.specs.Reads.{slot_names, moved_ref}
@@ -19,6 +21,10 @@ note_id named id = pick (waits id && named) (set_bit id 13) id
 -- all rows, each by whether it is named
 abbrev pub noted : (ℕ → Bool) → List ℕ → List ℕ
 noted named ids = rows (λ j id. note_id (named j) id) ids
+
+-- the same of files, whose other fields stay
+abbrev pub noted_files : (ℕ → Bool) → List VF → List VF
+noted_files named files = with_ids files (noted named (map id_of files))
 
 -- the rows that wait, listed from row i on
 unfoldable pub waiters_from : ℕ → List ℕ → List ℕ

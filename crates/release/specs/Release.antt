@@ -1,10 +1,12 @@
 -- How a session is released (document 01; `release_all`, `release`).
-use Rattle.std.specs.Prelude.{ℕ, max, Bool, false, not, ◌&&◌, ◌||◌, List, leb, eqb, length, get_or, replicate}
+use Rattle.std.specs.Prelude.{ℕ, max, Bool, false, not, ◌&&◌, ◌||◌, List, map, ◌≡◌, leb, eqb, length, get_or, replicate, Result, Ok, Err}
 use Rattle.loops.specs.Loops.{pick, some}
 use Rattle.loops.specs.Rows.{rows}
 use Rattle.bits.specs.Bit.{set_bit}
 use Rattle.vdisk.specs.Ids.{turned, freed, gone, moved, cleared}
 use Rattle.file_table.specs.Table.{max_files}
+use Rattle.file_table.specs.Files.{id_of, start_of, size_of, with_ids}
+use Rattle.file_table.specs.declared.VF.{VF}
 use Rattle.records.specs.Records.{max_records, no_rec, rec0}
 use Rattle.state.specs.State.{max_pairs, max_slots, pair0, st0, done0}
 use Rattle.state.specs.Setters.{with_boot, with_fat1, with_rec, with_pair, with_st, with_session, with_locks, with_last, with_staging, with_done, with_end_at, with_parks, with_purge}
@@ -12,6 +14,11 @@ use Rattle.state.specs.declared.w.St.{St}
 use Rattle.state.specs.declared.w.W.{W}
 use Rattle.medium.specs.Reads.{moved_ref}
 use Rattle.release.specs.Undecided.{is_undecided, staged_at}
+use Rattle.refusals.specs.Refusals.{number_of}
+use Rattle.refusals.specs.declared.Refusal.{Refusal}
+use Rattle.release.specs.declared.Ended as code
+use Rattle.release.specs.declared.Ending.{Ending}
+use Rattle.release.specs.declared.Ending.TheVariants.{NotDue, Ran, PutOff}
 
 -- What a release is lent: the medium, and the table's columns that it goes by.
 pub record Lending : Type 0 where
@@ -23,6 +30,10 @@ pub record Lending : Type 0 where
 
 abbrev pub lending : List ℕ → List ℕ → List ℕ → List ℕ → List ℕ → Lending
 lending fat area ids starts sizes = record { fat = fat; area = area; ids = ids; starts = starts; sizes = sizes }
+
+-- what it is lent with a table of files
+abbrev pub files_lending : List ℕ → List ℕ → List VF → Lending
+files_lending fat area files = lending fat area (map id_of files) (map start_of files) (map size_of files)
 
 -- What a call leaves: the refusal number; 0 where no release was due, 1 where one ran to its end, 2 where it was put off; whether there was
 -- anything to release; the state and the ids.
@@ -89,3 +100,30 @@ release_all_call x w reset = pick (fits x) (release_all x w reset) (turned_down 
 
 unfoldable pub release_call : Lending → W → Ended
 release_call x w = pick (fits x) (release x w) (turned_down x w 10)
+
+-- the number of an ending
+abbrev pub number_of_ending : Ending → ℕ
+number_of_ending NotDue = 0
+number_of_ending Ran = 1
+number_of_ending PutOff = 2
+
+-- What a call that may end the session answers: the refusal number; how it ended, and whether there was anything, by their definition's parts.
+pub record EndAnswer : Type 0 where
+  pub no : ℕ
+  pub ended : ℕ
+  pub had : Bool
+
+abbrev pub end_answer : Ended → EndAnswer
+end_answer e = record { no = e.number; ended = e.ended; had = e.had }
+
+abbrev pub answered : Result code.Ended Refusal → EndAnswer
+answered (Ok e) = record { no = 0; ended = number_of_ending e.ending; had = e.had }
+answered (Err r) = record { no = number_of r; ended = 0; had = false }
+
+-- What each call leaves, in its contract and in demand 3's lists alike. A call that may end the session, by its definition: the answer, the state, the
+-- table with its ids.
+abbrev pub EndsBy : (Lending → W → Ended) → List ℕ → List ℕ → W → List VF → EndAnswer → W → List VF → Type 0
+EndsBy call fat area w files r w_left files_left =
+    (r ≡ end_answer (call (files_lending fat area files) w))
+    × (w_left ≡ (call (files_lending fat area files) w).w)
+    × (files_left ≡ with_ids files (call (files_lending fat area files) w).ids)

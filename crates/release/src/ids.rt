@@ -1,11 +1,13 @@
 // What a release leaves of the marks.
-ghost use Rattle.std.specs.Prelude.{◌≡◌, ◌≤◌, length};
+ghost use Rattle.std.specs.Prelude.{◌≡◌, ◌≤◌, map, length};
+ghost use Rattle.file_table.specs.Files.{id_of, with_ids};
 ghost use Rattle.file_table.specs.Table.{max_files};
 ghost use Rattle.loops.specs.Rows.{rows};
 ghost use Rattle.release.specs.Notes.{settled_id};
-ghost use Rattle.release.specs.Release.{lending, released_ids};
+ghost use Rattle.release.specs.Release.{files_lending, released_ids};
 
 use crate::notes::note_staged;
+use file_table::VF;
 use state::w::{NST, St};
 use vdisk::ids::{FREED, TURNED};
 
@@ -20,29 +22,19 @@ fn settle_id(id: u16) -> u16
     clear
 }
 
-fn settle_ids(ids: &mut [u16])
-    ensures { ids.new ≡ rows (λ j id. settled_id id) ids.old }
+fn settle_ids(files: &mut [VF])
+    ensures { files.new ≡ with_ids files.old (rows (λ j id. settled_id id) (map id_of files.old)) }
 {
-    let mut j = 0;
-    while j < ids.len() {
-        let id = settle_id(ids[j]);
-        ids[j] = id;
-        j += 1;
+    for i in 0..files.len() {
+        files[i].id = settle_id(files[i].id);
     }
 }
 
 // A moved file that a staged sector names is freed first; then each row is settled.
-pub fn release_ids(
-    ids: &mut [u16],
-    starts: &[u16],
-    sizes: &[u32],
-    fat: &[u16],
-    area: &[u8],
-    st: [St; NST],
-)
-    requires { (length starts.now ≡ length ids.old) × (length sizes.now ≡ length ids.old) × (length ids.old ≤ max_files) }
-    ensures { ids.new ≡ released_ids (lending fat.now area.now ids.old starts.now sizes.now) st }
+pub fn release_ids(files: &mut [VF], fat: &[u16], area: &[u8], st: [St; NST])
+    requires { length files.old ≤ max_files }
+    ensures { files.new ≡ with_ids files.old (released_ids (files_lending fat.now area.now files.old) st) }
 {
-    note_staged(ids, starts, sizes, fat, area, st);
-    settle_ids(ids);
+    note_staged(files, fat, area, st);
+    settle_ids(files);
 }

@@ -1,10 +1,11 @@
 // One pass over the staged sectors, which frees each row that waits for a sector that names it. So each sector is read once, however many rows wait.
-ghost use Rattle.std.specs.Prelude.{◌≡◌, ◌&&◌, ◌+◌, ◌<◌, ◌≤◌, eqb, length, take};
+ghost use Rattle.std.specs.Prelude.{◌≡◌, ◌&&◌, ◌+◌, ◌<◌, ◌≤◌, eqb, map, length, take};
+ghost use Rattle.file_table.specs.Files.{id_of, start_of, size_of};
 ghost use Rattle.file_table.specs.Table.{max_files};
 ghost use Rattle.medium.specs.Reads.{sector_of};
-ghost use Rattle.release.specs.Notes.{waits, note_id, noted, waiters, InTable, listed, has_file, by_slot, by_sector, by_cluster, by_staged};
+ghost use Rattle.release.specs.Notes.{waits, note_id, noted_files, waiters, InTable, listed, has_file, by_slot, by_sector, by_cluster, by_staged};
 
-use file_table::MAX_VF;
+use file_table::{MAX_VF, VF};
 use medium::blocks::{block, has_block};
 use slots::fields::{size, start};
 use slots::refers::is_ordinary;
@@ -34,96 +35,70 @@ struct Waiting {
     rows: [u16; MAX_VF],
 }
 
-fn list_waiting(ids: &[u16]) -> Waiting
-    requires { length ids.now ≤ max_files }
-    ensures { (result.n ≤ length result.rows) × (take result.n result.rows ≡ waiters ids.now) }
+fn list_waiting(files: &[VF]) -> Waiting
+    requires { length files.now ≤ max_files }
+    ensures { (result.n ≤ length result.rows) × (take result.n result.rows ≡ waiters (map id_of files.now)) }
 {
     let mut rows = [0; MAX_VF];
     let mut n = 0;
-    let mut j = 0;
-    while j < ids.len() {
-        if is_waiting(ids[j]) {
+    for j in 0..files.len() {
+        if is_waiting(files[j].id) {
             rows[n] = j as u16;
             n += 1;
-            j += 1;
-        } else {
-            j += 1;
         }
     }
     Waiting { n: n, rows: rows }
 }
 
 // A row that waits is freed where a slot has its start and length.
-fn note_row(id: u16, at: u16, len: u32, slot_start: u16, slot_size: u32) -> u16
-    ensures { result ≡ note_id (eqb slot_start at && eqb slot_size len) id }
+fn note_row(f: VF, slot_start: u16, slot_size: u32) -> u16
+    ensures { result ≡ note_id (eqb slot_start f.vstart && eqb slot_size f.vsize) f.id }
 {
-    if slot_start != at {
-        return id;
+    if slot_start != f.vstart {
+        return f.id;
     }
-    if slot_size != len {
-        return id;
+    if slot_size != f.vsize {
+        return f.id;
     }
-    if !is_waiting(id) {
-        return id;
+    if !is_waiting(f.id) {
+        return f.id;
     }
-    bits::set_u16(id, FREED)
+    bits::set_u16(f.id, FREED)
 }
 
-fn note_rows(
-    ids: &mut [u16],
-    starts: &[u16],
-    sizes: &[u32],
-    waiting: &[u16],
-    slot_start: u16,
-    slot_size: u32,
-)
-    requires { (length starts.now ≡ length ids.old) × (length sizes.now ≡ length ids.old) × InTable (length ids.old) waiting.now }
-    ensures { ids.new ≡ noted (listed waiting.now (has_file starts.now sizes.now slot_start slot_size)) ids.old }
+fn note_rows(files: &mut [VF], waiting: &[u16], slot_start: u16, slot_size: u32)
+    requires { InTable (length files.old) waiting.now }
+    ensures { files.new ≡ noted_files (listed waiting.now (has_file (map start_of files.old) (map size_of files.old) slot_start slot_size)) files.old }
 {
-    let mut k = 0;
-    while k < waiting.len() {
-        let j = waiting[k] as usize;
-        let id = note_row(ids[j], starts[j], sizes[j], slot_start, slot_size);
-        ids[j] = id;
-        k += 1;
+    for row in waiting {
+        let j = *row as usize;
+        files[j].id = note_row(files[j], slot_start, slot_size);
     }
 }
 
 // The rows that the slot at a place names.
-fn note_slot(ids: &mut [u16], starts: &[u16], sizes: &[u32], waiting: &[u16], d: &[u8], at: usize)
-    requires { (length starts.now ≡ length ids.old) × (length sizes.now ≡ length ids.old) × InTable (length ids.old) waiting.now × (at + 32 ≤ length d.now) }
-    ensures { ids.new ≡ noted (listed waiting.now (by_slot starts.now sizes.now d.now at)) ids.old }
+fn note_slot(files: &mut [VF], waiting: &[u16], d: &[u8], at: usize)
+    requires { InTable (length files.old) waiting.now × (at + 32 ≤ length d.now) }
+    ensures { files.new ≡ noted_files (listed waiting.now (by_slot (map start_of files.old) (map size_of files.old) d.now at)) files.old }
 {
-    if !is_ordinary(d, at) {
-        return;
+    if is_ordinary(d, at) {
+        note_rows(files, waiting, start(d, at), size(d, at));
     }
-    note_rows(ids, starts, sizes, waiting, start(d, at), size(d, at));
 }
 
-fn note_sector(ids: &mut [u16], starts: &[u16], sizes: &[u32], waiting: &[u16], d: &[u8])
-    requires { (length starts.now ≡ length ids.old) × (length sizes.now ≡ length ids.old) × InTable (length ids.old) waiting.now × (512 ≤ length d.now) }
-    ensures { ids.new ≡ noted (listed waiting.now (by_sector starts.now sizes.now d.now)) ids.old }
+fn note_sector(files: &mut [VF], waiting: &[u16], d: &[u8])
+    requires { InTable (length files.old) waiting.now × (512 ≤ length d.now) }
+    ensures { files.new ≡ noted_files (listed waiting.now (by_sector (map start_of files.old) (map size_of files.old) d.now)) files.old }
 {
-    let mut k = 0;
-    while k < 16 {
-        note_slot(ids, starts, sizes, waiting, d, k * 32);
-        k += 1;
+    for k in 0..16 {
+        note_slot(files, waiting, d, k * 32);
     }
 }
 
 // The rows that sector `s` of a staged cluster names; none where it was not written or holds no block.
-fn note_staged_sector(
-    ids: &mut [u16],
-    starts: &[u16],
-    sizes: &[u32],
-    waiting: &[u16],
-    fat: &[u16],
-    area: &[u8],
-    x: St,
-    s: u32,
-)
-    requires { (length starts.now ≡ length ids.old) × (length sizes.now ≡ length ids.old) × InTable (length ids.old) waiting.now × (s < 64) }
-    ensures { ids.new ≡ noted (listed waiting.now (by_sector starts.now sizes.now (sector_of fat.now area.now x s))) ids.old }
+fn note_staged_sector(files: &mut [VF], waiting: &[u16], fat: &[u16], area: &[u8], x: St, s: u32)
+    requires { InTable (length files.old) waiting.now × (s < 64) }
+    ensures { files.new ≡ noted_files (listed waiting.now (by_sector (map start_of files.old) (map size_of files.old) (sector_of fat.now area.now x s))) files.old }
 {
     if !bits::test_u64(x.map, s) {
         return;
@@ -136,53 +111,34 @@ fn note_staged_sector(
     let whole = block(area, b);
     let at = (s % 8) as usize * 512;
     let end = at + 512;
-    note_sector(ids, starts, sizes, waiting, &whole[at..end]);
+    note_sector(files, waiting, &whole[at..end]);
 }
 
-fn note_cluster(
-    ids: &mut [u16],
-    starts: &[u16],
-    sizes: &[u32],
-    waiting: &[u16],
-    fat: &[u16],
-    area: &[u8],
-    x: St,
-)
-    requires { (length starts.now ≡ length ids.old) × (length sizes.now ≡ length ids.old) × InTable (length ids.old) waiting.now }
-    ensures { ids.new ≡ noted (listed waiting.now (by_cluster starts.now sizes.now fat.now area.now x)) ids.old }
+fn note_cluster(files: &mut [VF], waiting: &[u16], fat: &[u16], area: &[u8], x: St)
+    requires { InTable (length files.old) waiting.now }
+    ensures { files.new ≡ noted_files (listed waiting.now (by_cluster (map start_of files.old) (map size_of files.old) fat.now area.now x)) files.old }
 {
     if x.c == 0 {
         return;
     }
-    let mut s = 0;
-    while s < 64 {
-        note_staged_sector(ids, starts, sizes, waiting, fat, area, x, s);
-        s += 1;
+    for s in 0..64 {
+        note_staged_sector(files, waiting, fat, area, x, s);
     }
 }
 
 // Nothing is read where no row waits.
-pub fn note_staged(
-    ids: &mut [u16],
-    starts: &[u16],
-    sizes: &[u32],
-    fat: &[u16],
-    area: &[u8],
-    st: [St; NST],
-)
-    requires { (length starts.now ≡ length ids.old) × (length sizes.now ≡ length ids.old) × (length ids.old ≤ max_files) }
-    ensures { ids.new ≡ noted (by_staged starts.now sizes.now fat.now area.now st) ids.old }
+pub fn note_staged(files: &mut [VF], fat: &[u16], area: &[u8], st: [St; NST])
+    requires { length files.old ≤ max_files }
+    ensures { files.new ≡ noted_files (by_staged (map start_of files.old) (map size_of files.old) fat.now area.now st) files.old }
 {
-    let w = list_waiting(ids);
+    let w = list_waiting(files);
     let n = w.n;
     let waiting = w.rows;
     if n == 0 {
         return;
     }
-    let mut i = 0;
-    while i < NST {
+    for i in 0..NST {
         let x = st[i];
-        note_cluster(ids, starts, sizes, &waiting[..n], fat, area, x);
-        i += 1;
+        note_cluster(files, &waiting[..n], fat, area, x);
     }
 }

@@ -10,8 +10,8 @@ use records::{NREC, Rec};
 use state::w::{BPC, Done, NPAIR, NST, Pair, St, W};
 
 // No pair, record, staged cluster, boot byte or FAT[1].
-fn empty(mut w: W) -> W
-    ensures { result ≡ emptied w }
+fn empty(w: &mut W)
+    ensures { w.new ≡ emptied w.old }
 {
     let rec0 = Rec {
         slot: 0,
@@ -33,7 +33,6 @@ fn empty(mut w: W) -> W
     w.rec = rec;
     w.pair = pair;
     w.st = st;
-    w
 }
 
 // Are files of parked blocks to be deleted.
@@ -55,38 +54,32 @@ fn keeps_locks(locks: bool, reset: bool) -> bool
     locks
 }
 
-pub fn released(w: W, reset: bool) -> W
-    ensures { result ≡ released_state w reset }
+pub fn settle_state(w: &mut W, reset: bool)
+    ensures { w.new ≡ released_state w.old reset }
 {
-    let purge = purges(w.parks, w.purge);
-    let locks = keeps_locks(w.locks, reset);
-    let done = Done {
+    empty(w);
+    w.purge = purges(w.parks, w.purge);
+    w.parks = 0;
+    w.staging = false;
+    w.session = false;
+    w.last = 0;
+    w.done = Done {
         slot: 0,
         start: 0,
         size: 0,
         ver: 0,
     };
-    let mut out = empty(w);
-    out.purge = purge;
-    out.parks = 0;
-    out.staging = false;
-    out.session = false;
-    out.last = 0;
-    out.done = done;
-    out.end_at = 0;
-    out.locks = locks;
-    out
+    w.end_at = 0;
+    w.locks = keeps_locks(w.locks, reset);
 }
 
 fn any_rec(rec: [Rec; NREC]) -> bool
     ensures { result ≡ some (λ i. not (eqb (get_or rec i no_rec).slot 0)) max_records 0 }
 {
-    let mut i = 0;
-    while i < NREC {
+    for i in 0..NREC {
         if rec[i].slot != 0 {
             return true;
         }
-        i += 1;
     }
     false
 }
@@ -94,19 +87,17 @@ fn any_rec(rec: [Rec; NREC]) -> bool
 fn any_pair(pair: [Pair; NPAIR]) -> bool
     ensures { result ≡ some (λ i. not (eqb (get_or pair i pair0).c 0)) max_pairs 0 }
 {
-    let mut i = 0;
-    while i < NPAIR {
+    for i in 0..NPAIR {
         if pair[i].c != 0 {
             return true;
         }
-        i += 1;
     }
     false
 }
 
 // Was there anything to release.
-pub fn had_any(w: W) -> bool
-    ensures { result ≡ had_any w }
+pub fn had_any(w: &W) -> bool
+    ensures { result ≡ had_any w.now }
 {
     if w.session {
         return true;
@@ -130,13 +121,10 @@ pub fn had_any(w: W) -> bool
 }
 
 // Put off: the end is held back from now on, if it wasn't already.
-pub fn hold_back(mut w: W) -> W
-    ensures { result ≡ held_back w }
+pub fn hold_back(w: &mut W)
+    ensures { w.new ≡ held_back w.old }
 {
-    if w.end_at != 0 {
-        return w;
+    if w.end_at == 0 {
+        w.end_at = num::max_u64(w.now_ms, 1);
     }
-    let since = num::max_u64(w.now_ms, 1);
-    w.end_at = since;
-    w
 }

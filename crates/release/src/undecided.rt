@@ -74,12 +74,10 @@ fn is_decided(r: Rec, d: Done, ver: u32) -> bool
 pub fn any_staged(st: [St; NST]) -> bool
     ensures { result ≡ some (λ i. not (eqb (get_or st i no_st).c 0)) max_slots 0 }
 {
-    let mut i = 0;
-    while i < NST {
+    for i in 0..NST {
         if st[i].c != 0 {
             return true;
         }
-        i += 1;
     }
     false
 }
@@ -96,20 +94,18 @@ fn undecided_rec(r: Rec, done: Done, ver: u32) -> bool
 fn any_undecided(rec: [Rec; NREC], done: Done, ver: u32) -> bool
     ensures { result ≡ some (λ i. is_update (get_or rec i no_rec) && not (is_decided (get_or rec i no_rec) done ver)) max_records 0 }
 {
-    let mut i = 0;
-    while i < NREC {
+    for i in 0..NREC {
         let r = rec[i];
         if undecided_rec(r, done, ver) {
             return true;
         }
-        i += 1;
     }
     false
 }
 
 // Is a DM40*.BIN undecided, and anything staged.
-pub fn is_undecided(w: W) -> bool
-    ensures { result ≡ is_undecided w }
+pub fn is_undecided(w: &W) -> bool
+    ensures { result ≡ is_undecided w.now }
 {
     let st = w.st;
     if !any_staged(st) {

@@ -3,3 +3,4 @@ pub mod Poll
 pub mod Sessions
 pub mod PollLaws
 pub mod SessionLaws
+pub mod Calls

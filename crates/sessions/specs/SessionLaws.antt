@@ -1,12 +1,10 @@
 -- Laws of the finder and of a bus reset.
-use Rattle.std.specs.Prelude.{ℕ, Bool, true, List, length, get_or}
+use Rattle.std.specs.Prelude.{ℕ, Bool, true, List, length, get_or, Option, Some, None}
 use Rattle.std.proofs.Math.Path.{◌≡◌}
 use Rattle.std.proofs.Common.{sym, ◌∙◌}
 use native.Mathlib.Omega.{arith}
 use Rattle.loops.specs.Choices.{either}
 use Rattle.loops.specs.Found.{find, find-lt, find-is, find-none}
-use Rattle.loops.specs.declared.Found.{Found}
-use Rattle.loops.specs.declared.Found.TheVariants.{At, Nothing}
 use Rattle.vdisk.specs.Ids.{handed}
 use Rattle.state.specs.declared.w.W.{W}
 use Rattle.release.specs.Release.{Lending, release_all, fits, release_all_call}
@@ -17,10 +15,10 @@ abbrev pub handed_at : List ℕ → ℕ → Bool
 handed_at ids j = handed (get_or ids j 0)
 
 -- the first handed row is a handed row
-pub finds-first : (ids : List ℕ) (f : Found) → f ≡ find (handed_at ids) (length ids) → Finds ids f
+pub finds-first : (ids : List ℕ) (f : Option ℕ) → f ≡ find (handed_at ids) (length ids) → Finds ids f
 unfolding Finds
-finds-first ids (At j) e = (find-lt (handed_at ids) (length ids) j (sym e), find-is (handed_at ids) (length ids) j (sym e))
-finds-first ids Nothing e = λ j h. find-none (handed_at ids) (length ids) j (sym e) h
+finds-first ids (Some j) e = (find-lt (handed_at ids) (length ids) j (sym e), find-is (handed_at ids) (length ids) j (sym e))
+finds-first ids None e = λ j h. find-none (handed_at ids) (length ids) j (sym e) h
 
 -- a bus reset by what the release in it left
 module _ (x : Lending) (w : W) (number ended : ℕ) (had : Bool) (v : W) (ids : List ℕ) (l : Leaves (release_all_call x w true) number ended had v ids) where

@@ -1,8 +1,6 @@
 -- Starts, bus resets, the mode, and what was handed (document 01, "The drive" and "Judging a sector").
-use Rattle.std.specs.Prelude.{ℕ, ◌<◌, Bool, true, false, not, ◌&&◌, List, ◌≡◌, leb, ltb, length, get_or, set}
+use Rattle.std.specs.Prelude.{ℕ, ◌<◌, Bool, true, false, not, ◌&&◌, List, ◌≡◌, leb, ltb, length, get_or, set, Option, Some, None}
 use Rattle.loops.specs.Loops.{pick}
-use Rattle.loops.specs.declared.Found.{Found}
-use Rattle.loops.specs.declared.Found.TheVariants.{At, Nothing}
 use Rattle.bits.specs.Bit.{set_bit}
 use Rattle.vdisk.specs.Ids.{handed}
 use Rattle.file_table.specs.Table.{Table, max_files, accepts}
@@ -49,9 +47,9 @@ report_gone ids j =
     (record { number = 10; ids = ids })
 
 -- the finder answers the row of a handed file, any one; none only where none is
-unfoldable pub Finds : List ℕ → Found → Type 0
-Finds ids (At j) = (j < length ids) × (handed (get_or ids j 0) ≡ true)
-Finds ids Nothing = (j : ℕ) → j < length ids → handed (get_or ids j 0) ≡ false
+unfoldable pub Finds : List ℕ → Option ℕ → Type 0
+Finds ids (Some j) = (j < length ids) × (handed (get_or ids j 0) ≡ true)
+Finds ids None = (j : ℕ) → j < length ids → handed (get_or ids j 0) ≡ false
 
 -- a start takes the table only if it is acceptable (10 otherwise, and the old table and state go on), and sets the state anew
 pub record Started : Type 0 where

@@ -1,40 +1,39 @@
 // What was handed, and reports that it is gone.
-ghost use Rattle.std.specs.Prelude.{◌≡◌};
-ghost use Rattle.sessions.specs.Sessions.{report_gone, Finds};
+ghost use Rattle.std.specs.Prelude.{◌≡◌, map};
+ghost use Rattle.file_table.specs.Files.{id_of};
+ghost use Rattle.refusals.specs.Refusals.{told};
+ghost use Rattle.sessions.specs.Sessions.{Finds};
+ghost use Rattle.sessions.specs.Calls.{ReportsBy};
 
-use file_table::MAX_VF;
-use loops::Found;
+use file_table::{MAX_VF, VF};
+use refusals::Refusal;
 use vdisk::ids::{GONE, is_handed};
 
 // A row whose file is handed, if there is one.
-pub fn find_handed(ids: &[u16]) -> Found
-    ensures { Finds ids.now result }
+pub fn find_handed(files: &[VF]) -> Option<usize>
+    ensures { Finds (map id_of files.now) result }
 {
-    let mut j = 0;
-    while j < ids.len() {
-        if is_handed(ids[j]) {
-            return Found::At(j);
+    for j in 0..files.len() {
+        if is_handed(files[j].id) {
+            return Some(j);
         }
-        j += 1;
     }
-    Found::Nothing
+    None
 }
 
-// The file of row `j` is gone; 21 where there is no such row or its file isn't handed.
-pub fn report_gone(ids: &mut [u16], j: usize) -> u8
-    ensures number { result ≡ (report_gone ids.old j).number }
-    ensures table { ids.new ≡ (report_gone ids.old j).ids }
+// The file of row `j` is gone.
+pub fn report_gone(files: &mut [VF], j: usize) -> Result<(), Refusal>
+    ensures { ReportsBy j files.old (told result) files.new }
 {
-    if MAX_VF < ids.len() {
-        return 10;
+    if MAX_VF < files.len() {
+        return Err(Refusal::Table);
     }
-    if ids.len() <= j {
-        return 21;
+    if files.len() <= j {
+        return Err(Refusal::NotHanded);
     }
-    if !is_handed(ids[j]) {
-        return 21;
+    if !is_handed(files[j].id) {
+        return Err(Refusal::NotHanded);
     }
-    let id = bits::set_u16(ids[j], GONE);
-    ids[j] = id;
-    0
+    files[j].id = bits::set_u16(files[j].id, GONE);
+    Ok(())
 }

@@ -1,11 +1,19 @@
 // The clock's tick, up to its quiet release.
 ghost use Rattle.std.specs.Prelude.{◌≡◌};
-ghost use Rattle.release.specs.Release.{lending};
+ghost use Rattle.release.specs.Release.{EndsBy, answered};
 ghost use Rattle.sessions.specs.Poll.{ticked, end_due, is_quiet, poll_call};
 
+use file_table::{MAX_VF, VF};
+use refusals::Refusal;
 use release::undecided::is_undecided;
-use release::{Ended, release, release_all, table_fits};
+use release::{Ended, Ending, release, release_all};
 use state::w::W;
+
+// No release was due.
+const NOTHING: Ended = Ended {
+    ending: Ending::NotDue,
+    had: false,
+};
 
 // An end held back waits so long, and a quiet session lasts so long.
 const END_WAIT_MS: u64 = 1500;
@@ -13,20 +21,18 @@ const END_WAIT_MS: u64 = 1500;
 const QUIET_MS: u64 = 60000;
 
 // The clock, which may go back; a mounted drive was locked.
-fn tick(mut w: W, clock: u64, mounted: bool) -> W
-    ensures { result ≡ ticked w clock mounted }
+fn tick(w: &mut W, clock: u64, mounted: bool)
+    ensures { w.new ≡ ticked w.old clock mounted }
 {
     w.now_ms = clock;
     if mounted {
         w.locks = true;
-        return w;
     }
-    w
 }
 
 // Is an end held back due.
-fn end_due(w: W) -> bool
-    ensures { result ≡ end_due w }
+fn end_due(w: &W) -> bool
+    ensures { result ≡ end_due w.now }
 {
     if w.end_at == 0 {
         return false;
@@ -38,8 +44,8 @@ fn end_due(w: W) -> bool
 }
 
 // Is the session of a host that doesn't lock the medium quiet.
-fn is_quiet(w: W, mounted: bool) -> bool
-    ensures { result ≡ is_quiet w mounted }
+fn is_quiet(w: &W, mounted: bool) -> bool
+    ensures { result ≡ is_quiet w.now mounted }
 {
     if mounted {
         return false;
@@ -54,49 +60,28 @@ fn is_quiet(w: W, mounted: bool) -> bool
 }
 
 pub fn poll(
-    w: W,
-    ids: &mut [u16],
-    starts: &[u16],
-    sizes: &[u32],
+    w: &mut W,
+    files: &mut [VF],
     fat: &[u16],
     area: &[u8],
     clock: u64,
     mounted: bool,
-) -> Ended
-    ensures number { result.no ≡ (poll_call (lending fat.now area.now ids.old starts.now sizes.now) w clock mounted).number }
-    ensures ended { result.ended ≡ (poll_call (lending fat.now area.now ids.old starts.now sizes.now) w clock mounted).ended }
-    ensures had { result.had ≡ (poll_call (lending fat.now area.now ids.old starts.now sizes.now) w clock mounted).had }
-    ensures state { result.w ≡ (poll_call (lending fat.now area.now ids.old starts.now sizes.now) w clock mounted).w }
-    ensures table { ids.new ≡ (poll_call (lending fat.now area.now ids.old starts.now sizes.now) w clock mounted).ids }
+) -> Result<Ended, Refusal>
+    ensures { EndsBy (λ x v. poll_call x v clock mounted) fat.now area.now w.old files.old (answered result) w.new files.new }
 {
-    if !table_fits(ids, starts, sizes) {
-        return Ended {
-            no: 10,
-            ended: 0,
-            had: false,
-            w: w,
-        };
+    if MAX_VF < files.len() {
+        return Err(Refusal::Table);
     }
-    let mut t = tick(w, clock, mounted);
-    if end_due(t) {
-        t.end_at = 0;
+    tick(w, clock, mounted);
+    if end_due(w) {
+        w.end_at = 0;
         if mounted {
-            return Ended {
-                no: 0,
-                ended: 0,
-                had: false,
-                w: t,
-            };
+            return Ok(NOTHING);
         }
-        return release_all(t, ids, starts, sizes, fat, area, false);
+        return release_all(w, files, fat, area, false);
     }
-    if is_quiet(t, mounted) {
-        return release(t, ids, starts, sizes, fat, area);
+    if is_quiet(w, mounted) {
+        return release(w, files, fat, area);
     }
-    Ended {
-        no: 0,
-        ended: 0,
-        had: false,
-        w: t,
-    }
+    Ok(NOTHING)
 }

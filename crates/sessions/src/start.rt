@@ -1,18 +1,30 @@
 // A start.
-ghost use Rattle.std.specs.Prelude.{◌≡◌};
-ghost use Rattle.file_table.specs.Table.{table_of};
-ghost use Rattle.sessions.specs.Sessions.{start as started};
+ghost use Rattle.file_table.specs.Table.{columns};
+ghost use Rattle.refusals.specs.Refusals.{told};
+ghost use Rattle.sessions.specs.Calls.{StartsBy};
 
-use state::w::{Answer, W, initial_state};
+use file_table::{MAX_VF, VF};
+use refusals::Refusal;
+use state::w::{W, initial_state};
 
 // A start takes the table only if it is acceptable, and sets the state anew.
-pub fn start(w: W, ids: &[u16], slots: &[u16], starts: &[u16], sizes: &[u32], first: u32) -> Answer
-    ensures number { result.no ≡ (started (table_of ids.now slots.now starts.now sizes.now first) w).number }
-    ensures state { result.w ≡ (started (table_of ids.now slots.now starts.now sizes.now first) w).w }
+pub fn start(w: &mut W, files: &[VF], first: u32) -> Result<(), Refusal>
+    ensures { StartsBy (columns files.now first) w.old (told result) w.new }
 {
-    if !file_table::table_ok(ids, slots, starts, sizes, first) {
-        return Answer { no: 10, w: w };
+    let n = files.len();
+    if MAX_VF < n {
+        return Err(Refusal::Table);
     }
-    let fresh = initial_state(first);
-    Answer { no: 0, w: fresh }
+    let c = files::load(files);
+    if !file_table::table_ok(
+        &c.ids[..n],
+        &c.slots[..n],
+        &c.starts[..n],
+        &c.sizes[..n],
+        first,
+    ) {
+        return Err(Refusal::Table);
+    }
+    *w = initial_state(first);
+    Ok(())
 }

@@ -1,10 +1,8 @@
 -- The answers of the calls that only read: an enum's, with this paper's number and the values of each case.
-use Rattle.std.specs.Prelude.{ℕ, true, false, List, map, ltb, length, take}
+use Rattle.std.specs.Prelude.{ℕ, true, false, List, map, ltb, length, take, Option, Some, None}
 use Rattle.loops.specs.Loops.{pick}
 use Rattle.vdisk.specs.Owner.{owner_of}
-use Rattle.vdisk.specs.declared.drive.DirKind.{DirKind}
 use Rattle.vdisk.specs.declared.owner.Own.{Own}
-use Rattle.state.specs.declared.pairs.PairOf.{PairOf}
 use Rattle.file_table.specs.Table.{max_files}
 use Rattle.file_table.specs.declared.VF.{VF}
 use Rattle.files.specs.Files.{start_of, size_of}
@@ -13,13 +11,13 @@ use Rattle.state_calls.specs.declared.PairAnswer.{PairAnswer}
 use Rattle.state_calls.specs.declared.DirAnswer.{DirAnswer}
 use Rattle.state_calls.specs.declared.OwnAnswer.{OwnAnswer}
 
-unfoldable pub pair_answer : PairOf → PairAnswer
-pair_answer (PairOf.Value v) = record { found = true; v = v }
-pair_answer PairOf.NoPair = record { found = false; v = 0 }
+unfoldable pub pair_answer : Option ℕ → PairAnswer
+pair_answer (Some v) = record { found = true; v = v }
+pair_answer None = record { found = false; v = 0 }
 
-unfoldable pub dir_answer : DirKind → DirAnswer
-dir_answer (DirKind.Kind k) = record { found = true; kind = k }
-dir_answer DirKind.NoDir = record { found = false; kind = 0 }
+unfoldable pub dir_answer : Option ℕ → DirAnswer
+dir_answer (Some k) = record { found = true; kind = k }
+dir_answer None = record { found = false; kind = 0 }
 
 -- 0 Reserved, 1 Fixed, 2 a file and its row, 3 Free
 unfoldable pub own_answer : Own → OwnAnswer

@@ -17,9 +17,9 @@ use file_table::MAX_VF;
 use files::Columns;
 use medium::reads::moved_ref;
 use records::{NREC, Rec};
-use state::pairs::{PairOf, pair_of};
+use refusals::told;
+use state::pairs::pair_of;
 use state::w::{NPAIR, NST, Pair, St};
-use vdisk::drive::DirKind;
 use vdisk::owner::{Own, rising};
 
 // The host's FAT entry of a cluster: is there one, and its value, 0 where there is none.
@@ -65,14 +65,14 @@ pub fn staged_read(
         × (out.new ≡ staged_bytes fat.now area.now st c s out.old) }
 {
     let a = medium::reads::staged_read(st, fat, area, c, s, out);
-    *staged = a.staged;
-    a.no
+    *staged = a.unwrap_or(false);
+    told(a)
 }
 
 pub fn pair(pairs: [Pair; NPAIR], c: u32, v: &mut u16) -> bool
     ensures { record { found = result; v = v.new } ≡ pair_answer (pair_of pairs c) }
 {
-    let PairOf::Value(x) = pair_of(pairs, c) else {
+    let Some(x) = pair_of(pairs, c) else {
         *v = 0;
         return false;
     };
@@ -84,9 +84,8 @@ pub fn root_rec(rec: [Rec; NREC], slot: usize, e: &mut [u8; 32]) -> bool
     ensures { record { found = result; e = e.new } ≡ root_rec rec slot }
 {
     let a = records::root_rec(rec, slot);
-    let bytes = a.e;
-    *e = bytes;
-    a.found
+    *e = a.unwrap_or([0u8; 32]);
+    a.is_some()
 }
 
 pub fn complete(
@@ -118,22 +117,22 @@ pub fn body_check(
     ensures { record { no = result; valid = valid.new } ≡ body_of fat.now area.now pairs st start size }
 {
     let a = body::body(fat, area, pairs, st, start, size);
-    *valid = a.valid;
-    a.no
+    *valid = a.unwrap_or(false);
+    told(a)
 }
 
 pub fn strict_name(rec: [Rec; NREC], sector: &[u8], slot: usize, housekeeping: &mut bool) -> u8
     ensures { record { no = result; housekeeping = housekeeping.new } ≡ strict_of rec sector.now slot }
 {
     let a = root_slots::strict_name(rec, sector, slot);
-    *housekeeping = a.housekeeping;
-    a.no
+    *housekeeping = a.unwrap_or(false);
+    refusals::told(a)
 }
 
 pub fn dir_kind(c: u32, kind: &mut u16) -> bool
     ensures { record { found = result; kind = kind.new } ≡ dir_answer (dir_kind_of c) }
 {
-    let DirKind::Kind(k) = vdisk::drive::dir_kind(c) else {
+    let Some(k) = vdisk::drive::dir_kind(c) else {
         *kind = 0;
         return false;
     };

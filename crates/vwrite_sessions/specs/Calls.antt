@@ -6,9 +6,17 @@ use Rattle.state.specs.declared.w.W.{W}
 use Rattle.release.specs.Release.{release_call, release_all_call}
 use Rattle.sessions.specs.Poll.{poll_call}
 use Rattle.sessions.specs.Sessions.{bus_reset_call, read_only, read_only_pending}
-use Rattle.session_calls.specs.Calls.{EndsBy, end_with, FindsFile, handed_with, ReportsBy, StartsBy, AsksMode, SetsMode}
-use Rattle.session_calls.specs.declared.End.{End}
-use Rattle.session_calls.specs.declared.Handed.{Handed}
+use Rattle.release.specs.Release.{EndAnswer, EndsBy}
+use Rattle.sessions.specs.Calls.{HandedAnswer, FindsFile, ReportsBy, StartsBy, AsksMode, SetsMode}
+use Rattle.vwrite_sessions.specs.declared.ends.End.{End}
+use Rattle.vwrite_sessions.specs.declared.gone.Handed.{Handed}
+
+-- a number and what is written beside it, as one answer
+abbrev pub end_with : ℕ → End → EndAnswer
+end_with n e = record { no = n; ended = e.ended; had = e.had }
+
+abbrev pub handed_with : ℕ → Handed → HandedAnswer
+handed_with m h = record { no = m; found = h.found; row = h.row }
 
 -- A start: the number and the state.
 abbrev pub Starts : List VF → ℕ → W → ℕ → W → Type 0

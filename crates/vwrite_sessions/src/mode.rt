@@ -1,6 +1,7 @@
 // The mode.
 ghost use Rattle.vwrite_sessions.specs.Calls.{Asks, PutsInForce, TellsMode, TellsPending};
 
+use sessions::mode;
 use state::w::W;
 
 // Ask for the read-only drive, or the one that can be written.
@@ -8,7 +9,7 @@ use state::w::W;
 pub extern "C" fn vwrite_set_read_only(w: &mut W, on: bool)
     ensures { Asks on w.old w.new }
 {
-    w.want_rw = !on;
+    mode::set_read_only(w, on);
 }
 
 // The mode that was asked for is in force.
@@ -16,7 +17,7 @@ pub extern "C" fn vwrite_set_read_only(w: &mut W, on: bool)
 pub extern "C" fn vwrite_on_bus_reset(w: &mut W)
     ensures { PutsInForce w.old w.new }
 {
-    w.rw = w.want_rw;
+    mode::mode_reset(w);
 }
 
 // The mode in force.
@@ -24,7 +25,7 @@ pub extern "C" fn vwrite_on_bus_reset(w: &mut W)
 pub extern "C" fn vwrite_read_only(w: &W) -> bool
     ensures { TellsMode w.now result }
 {
-    !w.rw
+    mode::read_only(w)
 }
 
 // The mode that is asked for.
@@ -32,5 +33,5 @@ pub extern "C" fn vwrite_read_only(w: &W) -> bool
 pub extern "C" fn vwrite_read_only_pending(w: &W) -> bool
     ensures { TellsPending w.now result }
 {
-    !w.want_rw
+    mode::read_only_pending(w)
 }

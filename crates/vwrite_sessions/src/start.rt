@@ -2,8 +2,8 @@
 ghost use Rattle.vwrite_sessions.specs.Calls.{Starts};
 
 use file_table::VF;
-use files::load;
-use session_calls::start_columns;
+use refusals::told;
+use sessions::start::start;
 use state::w::W;
 
 // A start takes the table only if it is acceptable (10 otherwise, and the state stays), and sets the state anew; `first` is the first session cluster.
@@ -11,8 +11,5 @@ use state::w::W;
 pub extern "C" fn vwrite_start(w: &mut W, files: &[VF], first: u32) -> u8
     ensures { Starts files.now first w.old result w.new }
 {
-    let c = load(files);
-    let o = start_columns(*w, c, first);
-    *w = o.w;
-    o.no
+    told(start(w, files, first))
 }

@@ -8,4 +8,4 @@ returns-in_default c = ap dir_answer (sym c.in_default.is ∙ c.dir_kind.ensures
 
 pub returns : goal.returns
 unfolding dir_answer
-returns c = ap dir_answer (sym c.in-Kind.is ∙ c.dir_kind.ensures)
+returns c = ap dir_answer (sym c.in-Some.is ∙ c.dir_kind.ensures)

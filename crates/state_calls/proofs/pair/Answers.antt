@@ -8,4 +8,4 @@ returns-in_default c = ap pair_answer (sym c.in_default.is ∙ c.pair_of.ensures
 
 pub returns : goal.returns
 unfolding pair_answer
-returns c = ap pair_answer (sym c.in-Value.is ∙ c.pair_of.ensures)
+returns c = ap pair_answer (sym c.in-Some.is ∙ c.pair_of.ensures)

@@ -1,18 +1,13 @@
-use Prim.Native.Nat.{◌≤◌}
-use mathlib.Core.Path.{refl}
-use lib.ListN.{length, length-set}
-use native.Mathlib.Omega.{arith}
-use Rattle.loops.specs.Rows.{rows-more, rows-end}
+use Rattle.std.proofs.Common.{arith}
+use Rattle.release.specs.Notes.{settled_id}
+use Rattle.file_table.proofs.FileRows.{files-start, files-more, files-end}
 use Rattle.release.proofs.ids.settle_ids.Goals as goal
 
-pub loop-j-init : goal.loop-j-init
-loop-j-init c = (omega arith, refl, refl)
+pub loop-i-init : goal.loop-i-init
+loop-i-init c = files-start (λ k id. settled_id id) c.args.files.now
 
-pub settle_id-id-requires : goal.settle_id-id-requires
-settle_id-id-requires c = tt
-
-pub loop-j-preserved : goal.loop-j-preserved
-loop-j-preserved c = (omega arith, simp length-set c.loop-j.invariant.1, rows-more _ _ _ _ c.loop-j.invariant.2 c.settle_id-id.result c.settle_id-id.ensures (omega arith))
+pub loop-i-preserved : goal.loop-i-preserved
+loop-i-preserved c = files-more (λ k id. settled_id id) c.args.files.now c.loop-i.files c.loop-i.i c.loop-i.invariant _ _ c.settle_id.ensures (omega arith)
 
 pub returns : goal.returns
-returns c = let q : length c.args.ids.now ≤ c.loop-j.j = omega arith in rows-end _ _ _ _ c.loop-j.invariant.2 q
+returns c = files-end (λ k id. settled_id id) c.args.files.now c.loop-i.files c.loop-i.i c.loop-i.invariant (omega arith)

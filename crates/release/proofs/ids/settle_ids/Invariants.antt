@@ -1,13 +1,8 @@
-use Prim.Native.Nat.{◌≤◌, ◌-◌}
-use mathlib.Core.List.{◌++◌}
-use mathlib.Core.Path.{◌≡◌}
-use lib.ListN.{length, take, drop}
+use Rattle.std.proofs.Common.{◌≡◌, map, take}
 use Rattle.loops.specs.Rows.{rows}
+use Rattle.file_table.specs.Files.{id_of, with_ids}
 use Rattle.release.specs.Notes.{settled_id}
 use Rattle.release.proofs.ids.settle_ids.Given as goal
 
-abbrev pub invariant-loop-j : goal.invariant-loop-j
-invariant-loop-j l = (l.j ≤ length l.initial.ids) × (length l.ids ≡ length l.initial.ids) × (l.ids ≡ take l.j (rows (λ k id. settled_id id) l.initial.ids) ++ drop l.j l.initial.ids)
-
-abbrev pub decreases-loop-j : goal.decreases-loop-j
-decreases-loop-j l = length l.initial.ids - l.j
+abbrev pub invariant-loop-i : goal.invariant-loop-i
+invariant-loop-i l = l.files ≡ with_ids l.initial.files (take l.i (rows (λ k id. settled_id id) (map id_of l.initial.files)))

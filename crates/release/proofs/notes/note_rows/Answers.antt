@@ -1,46 +1,36 @@
-use mathlib.Core.Path.{◌∙◌, ap}
-use lib.ListN.{length, get_or, set}
-use native.Mathlib.Omega.{arith}
+use Rattle.std.proofs.Common.{◌∙◌, ap, arith, map, length, get_or}
+use Rattle.file_table.specs.Files.{id_of, start_of, size_of, with_ids}
 use Rattle.release.specs.Notes.{has_file}
-use Rattle.release.proofs.NoteLaws.{passed-start, passed-go, passed-end, set-noted, listed-end}
+use Rattle.release.proofs.NoteLaws.{listed-end}
+use Rattle.release.proofs.FileNotes.{file-noted, files-start, files-starts, files-sizes, files-go, files-end}
 use Rattle.release.proofs.notes.note_rows.Invariants.{names}
 use Rattle.release.proofs.notes.note_rows.Goals as goal
 
-pub loop-k-init : goal.loop-k-init
-loop-k-init c = (omega arith, passed-start (names c.args.starts.now c.args.sizes.now c.args.waiting.now c.args.slot_start c.args.slot_size) c.args.ids.now)
+pub loop-row-init : goal.loop-row-init
+loop-row-init c = files-start (names (map start_of c.args.files.now) (map size_of c.args.files.now) c.args.waiting.now c.args.slot_start c.args.slot_size) c.args.files.now
 
-pub overflow_cast-j : goal.overflow_cast-j
-overflow_cast-j c = let h = c.requires.2 c.loop-k.k c.loop-k-test.true in omega arith
+pub offset_bounds-files-j : goal.offset_bounds-files-j
+offset_bounds-files-j c = omega (arith, c.type_inv.waiting c.loop-row.row-index)
 
-pub offset_bounds-ids-j : goal.offset_bounds-ids-j
-offset_bounds-ids-j c = let h = c.requires.2 c.loop-k.k c.loop-k-test.true in omega arith
+pub bounds-files-j : goal.bounds-files-j
+bounds-files-j c = let h = c.requires c.loop-row.row-index c.loop-row-test.true in omega arith
 
-pub bounds-ids-j : goal.bounds-ids-j
-bounds-ids-j c = let h = c.requires.2 c.loop-k.k c.loop-k-test.true in omega arith
+pub offset_bounds-files-j-in-loop-row : goal.offset_bounds-files-j-in-loop-row
+offset_bounds-files-j-in-loop-row c = omega (arith, c.type_inv.waiting c.loop-row.row-index)
 
-pub offset_bounds-starts-j : goal.offset_bounds-starts-j
-offset_bounds-starts-j c = let h = c.requires.2 c.loop-k.k c.loop-k-test.true in omega arith
-
-pub bounds-starts-j : goal.bounds-starts-j
-bounds-starts-j c = let h = c.requires.2 c.loop-k.k c.loop-k-test.true in omega arith
-
-pub offset_bounds-sizes-j : goal.offset_bounds-sizes-j
-offset_bounds-sizes-j c = let h = c.requires.2 c.loop-k.k c.loop-k-test.true in omega arith
-
-pub bounds-sizes-j : goal.bounds-sizes-j
-bounds-sizes-j c = let h = c.requires.2 c.loop-k.k c.loop-k-test.true in omega arith
-
-pub note_row-id-requires : goal.note_row-id-requires
-note_row-id-requires c = tt
-
-pub offset_bounds-ids-j-in-loop-k : goal.offset_bounds-ids-j-in-loop-k
-offset_bounds-ids-j-in-loop-k c = let h = c.requires.2 c.loop-k.k c.loop-k-test.true in omega arith
-
-pub bounds-ids-j-in-loop-k : goal.bounds-ids-j-in-loop-k
-bounds-ids-j-in-loop-k c = let h = c.requires.2 c.loop-k.k c.loop-k-test.true in omega arith
-
-pub loop-k-preserved : goal.loop-k-preserved
-loop-k-preserved c = let h = c.requires.2 c.loop-k.k c.loop-k-test.true in (omega arith, passed-go (names c.args.starts.now c.args.sizes.now c.args.waiting.now c.args.slot_start c.args.slot_size) c.args.ids.now c.loop-k.k c.loop-k.ids _ c.loop-k.invariant.1 (ap (set c.loop-k.ids (get_or c.args.waiting.now c.loop-k.k 0)) c.note_row-id.ensures ∙ set-noted (has_file c.args.starts.now c.args.sizes.now c.args.slot_start c.args.slot_size) c.loop-k.ids (get_or c.args.waiting.now c.loop-k.k 0) (omega arith)))
+pub loop-row-preserved : goal.loop-row-preserved
+loop-row-preserved c =
+    let a = c.args in
+    let l = c.loop-row in
+    let p = names (map start_of a.files.now) (map size_of a.files.now) a.waiting.now a.slot_start a.slot_size in
+    let h = c.requires l.row-index c.loop-row-test.true in
+    let q = file-noted l.files (get_or a.waiting.now l.row-index 0) a.slot_start a.slot_size c.note_row.result _ (omega arith) c.note_row.ensures in
+    files-go p a.files.now l.row-index l.files l.invariant _ (rw (files-starts p a.files.now l.row-index l.files l.invariant, files-sizes p a.files.now l.row-index l.files l.invariant) at q)
 
 pub returns : goal.returns
-returns c = passed-end (names c.args.starts.now c.args.sizes.now c.args.waiting.now c.args.slot_start c.args.slot_size) c.args.ids.now c.loop-k.k (length c.args.waiting.now) c.loop-k.ids (omega arith) c.loop-k.invariant.1 ∙ listed-end c.args.waiting.now (has_file c.args.starts.now c.args.sizes.now c.args.slot_start c.args.slot_size) c.args.ids.now
+returns c =
+    let a = c.args in
+    let l = c.loop-row in
+    let p = names (map start_of a.files.now) (map size_of a.files.now) a.waiting.now a.slot_start a.slot_size in
+    files-end p a.files.now l.row-index (length a.waiting.now) l.files (omega arith) l.invariant
+    ∙ ap (with_ids a.files.now) (listed-end a.waiting.now (has_file (map start_of a.files.now) (map size_of a.files.now) a.slot_start a.slot_size) (map id_of a.files.now))

@@ -1,11 +1,9 @@
-use Prim.Native.Nat.{ℕ, ◌≤◌, ◌-◌}
-use mathlib.Core.Bool.{Bool}
-use mathlib.Core.List.{List}
-use lib.ListN.{get_or, take}
-use Rattle.state.specs.State.{max_slots, no_st}
+use Rattle.std.proofs.Common.{ℕ, Bool, List, map, get_or, take}
+use Rattle.state.specs.State.{no_st}
 use Rattle.state.specs.declared.w.St.{St}
+use Rattle.file_table.specs.Files.{start_of, size_of}
 use Rattle.release.specs.Notes.{listed, by_cluster}
-use Rattle.release.proofs.NoteLaws.{Passed}
+use Rattle.release.proofs.FileNotes.{PassedFiles}
 use Rattle.release.proofs.notes.note_staged.Given as goal
 
 -- row j is listed, and staged cluster i names it
@@ -13,7 +11,4 @@ abbrev pub names : List ℕ → List ℕ → List ℕ → List ℕ → List ℕ 
 names waiting starts sizes fat area st j i = listed waiting (by_cluster starts sizes fat area (get_or st i no_st)) j
 
 abbrev pub invariant-loop-i : goal.invariant-loop-i
-invariant-loop-i l = (l.i ≤ max_slots) × Passed (names (take l.n l.waiting) l.starts l.sizes l.fat l.area l.st) l.i l.initial.ids l.ids
-
-abbrev pub decreases-loop-i : goal.decreases-loop-i
-decreases-loop-i l = max_slots - l.i
+invariant-loop-i l = PassedFiles (names (take l.n l.waiting) (map start_of l.initial.files) (map size_of l.initial.files) l.fat l.area l.st) l.i l.initial.files l.files

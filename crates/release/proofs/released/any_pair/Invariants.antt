@@ -1,4 +1,4 @@
-use Prim.Native.Nat.{◌≤◌, ◌-◌}
+use Prim.Native.Nat.{◌-◌}
 use mathlib.Core.Bool.{not}
 use mathlib.Core.Path.{◌≡◌}
 use lib.Dec.{eqb}
@@ -8,7 +8,4 @@ use Rattle.state.specs.State.{max_pairs, pair0}
 use Rattle.release.proofs.released.any_pair.Given as goal
 
 abbrev pub invariant-loop-i : goal.invariant-loop-i
-invariant-loop-i l = (l.i ≤ max_pairs) × (some (λ n. not (eqb (get_or l.pair n pair0).c 0)) max_pairs 0 ≡ some (λ n. not (eqb (get_or l.pair n pair0).c 0)) (max_pairs - l.i) l.i)
-
-abbrev pub decreases-loop-i : goal.decreases-loop-i
-decreases-loop-i l = max_pairs - l.i
+invariant-loop-i l = some (λ n. not (eqb (get_or l.pair n pair0).c 0)) max_pairs 0 ≡ some (λ n. not (eqb (get_or l.pair n pair0).c 0)) (max_pairs - l.i) l.i

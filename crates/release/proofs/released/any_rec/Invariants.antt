@@ -1,4 +1,4 @@
-use Prim.Native.Nat.{◌≤◌, ◌-◌}
+use Prim.Native.Nat.{◌-◌}
 use mathlib.Core.Bool.{not}
 use mathlib.Core.Path.{◌≡◌}
 use lib.Dec.{eqb}
@@ -8,7 +8,4 @@ use Rattle.records.specs.Records.{max_records, no_rec}
 use Rattle.release.proofs.released.any_rec.Given as goal
 
 abbrev pub invariant-loop-i : goal.invariant-loop-i
-invariant-loop-i l = (l.i ≤ max_records) × (some (λ n. not (eqb (get_or l.rec n no_rec).slot 0)) max_records 0 ≡ some (λ n. not (eqb (get_or l.rec n no_rec).slot 0)) (max_records - l.i) l.i)
-
-abbrev pub decreases-loop-i : goal.decreases-loop-i
-decreases-loop-i l = max_records - l.i
+invariant-loop-i l = some (λ n. not (eqb (get_or l.rec n no_rec).slot 0)) max_records 0 ≡ some (λ n. not (eqb (get_or l.rec n no_rec).slot 0)) (max_records - l.i) l.i

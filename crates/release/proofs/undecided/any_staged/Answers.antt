@@ -1,16 +1,15 @@
-use native.Mathlib.Omega.{arith}
 use borrow.Author.Tests.{eq-eqb, ne_eqb}
 use Rattle.loops.specs.Loops.{some-start, some-go, some-stop, some-end}
 use Rattle.release.proofs.undecided.any_staged.Goals as goal
 
 pub loop-i-init : goal.loop-i-init
-loop-i-init c = (omega arith, some-start _ _)
+loop-i-init c = some-start _ _
 
 pub returns-then-st-i-ne0 : goal.returns-then-st-i-ne0
-returns-then-st-i-ne0 c = some-stop _ _ _ _ c.loop-i.invariant.1 c.loop-i-test.true (simp (ne_eqb _ _ c.if-st-i-ne0.true))
+returns-then-st-i-ne0 c = some-stop _ _ _ _ c.loop-i.invariant c.loop-i-test.true (simp (ne_eqb _ _ c.if-st-i-ne0.true))
 
 pub loop-i-preserved : goal.loop-i-preserved
-loop-i-preserved c = (omega arith, some-go _ _ _ _ c.loop-i.invariant.1 c.loop-i-test.true (simp (eq-eqb _ _ c.if-st-i-ne0.false)))
+loop-i-preserved c = some-go _ _ _ _ c.loop-i.invariant c.loop-i-test.true (simp (eq-eqb _ _ c.if-st-i-ne0.false))
 
 pub returns : goal.returns
-returns c = some-end _ _ _ _ c.loop-i.invariant.1 c.loop-i-test.false
+returns c = some-end _ _ _ _ c.loop-i.invariant c.loop-i-test.false

@@ -1,4 +1,4 @@
-use Prim.Native.Nat.{◌≤◌, ◌-◌}
+use Prim.Native.Nat.{◌-◌}
 use mathlib.Core.Bool.{not}
 use mathlib.Core.Path.{◌≡◌}
 use lib.Dec.{eqb}
@@ -8,7 +8,4 @@ use Rattle.state.specs.State.{max_slots, no_st}
 use Rattle.release.proofs.undecided.any_staged.Given as goal
 
 abbrev pub invariant-loop-i : goal.invariant-loop-i
-invariant-loop-i l = (l.i ≤ max_slots) × (some (λ n. not (eqb (get_or l.st n no_st).c 0)) max_slots 0 ≡ some (λ n. not (eqb (get_or l.st n no_st).c 0)) (max_slots - l.i) l.i)
-
-abbrev pub decreases-loop-i : goal.decreases-loop-i
-decreases-loop-i l = max_slots - l.i
+invariant-loop-i l = some (λ n. not (eqb (get_or l.st n no_st).c 0)) max_slots 0 ≡ some (λ n. not (eqb (get_or l.st n no_st).c 0)) (max_slots - l.i) l.i

@@ -1,19 +1,18 @@
 use mathlib.Core.Path.{sym, ◌∙◌}
-use native.Mathlib.Omega.{arith}
 use Rattle.loops.specs.Loops.{some-start, some-go, some-stop, some-end}
 use Rattle.release.proofs.undecided.any_undecided.Goals as goal
 
 pub loop-i-init : goal.loop-i-init
-loop-i-init c = (omega arith, some-start _ _)
+loop-i-init c = some-start _ _
 
 pub undecided_rec-requires : goal.undecided_rec-requires
 undecided_rec-requires c = tt
 
 pub returns-then-undecided_rec : goal.returns-then-undecided_rec
-returns-then-undecided_rec c = some-stop _ _ _ _ c.loop-i.invariant.1 c.loop-i-test.true (sym c.undecided_rec.ensures ∙ c.if-undecided_rec.true)
+returns-then-undecided_rec c = some-stop _ _ _ _ c.loop-i.invariant c.loop-i-test.true (sym c.undecided_rec.ensures ∙ c.if-undecided_rec.true)
 
 pub loop-i-preserved : goal.loop-i-preserved
-loop-i-preserved c = (omega arith, some-go _ _ _ _ c.loop-i.invariant.1 c.loop-i-test.true (sym c.undecided_rec.ensures ∙ c.if-undecided_rec.false))
+loop-i-preserved c = some-go _ _ _ _ c.loop-i.invariant c.loop-i-test.true (sym c.undecided_rec.ensures ∙ c.if-undecided_rec.false)
 
 pub returns : goal.returns
-returns c = some-end _ _ _ _ c.loop-i.invariant.1 c.loop-i-test.false
+returns c = some-end _ _ _ _ c.loop-i.invariant c.loop-i-test.false

@@ -1,4 +1,4 @@
-use Prim.Native.Nat.{◌≤◌, ◌-◌}
+use Prim.Native.Nat.{◌-◌}
 use mathlib.Core.Bool.{not, ◌&&◌}
 use mathlib.Core.Path.{◌≡◌}
 use lib.ListN.{get_or}
@@ -8,7 +8,4 @@ use Rattle.release.specs.Undecided.{is_update, is_decided}
 use Rattle.release.proofs.undecided.any_undecided.Given as goal
 
 abbrev pub invariant-loop-i : goal.invariant-loop-i
-invariant-loop-i l = (l.i ≤ max_records) × (some (λ n. is_update (get_or l.rec n no_rec) && not (is_decided (get_or l.rec n no_rec) l.done l.ver)) max_records 0 ≡ some (λ n. is_update (get_or l.rec n no_rec) && not (is_decided (get_or l.rec n no_rec) l.done l.ver)) (max_records - l.i) l.i)
-
-abbrev pub decreases-loop-i : goal.decreases-loop-i
-decreases-loop-i l = max_records - l.i
+invariant-loop-i l = some (λ n. is_update (get_or l.rec n no_rec) && not (is_decided (get_or l.rec n no_rec) l.done l.ver)) max_records 0 ≡ some (λ n. is_update (get_or l.rec n no_rec) && not (is_decided (get_or l.rec n no_rec) l.done l.ver)) (max_records - l.i) l.i

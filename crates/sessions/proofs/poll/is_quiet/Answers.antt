@@ -1,4 +1,3 @@
-use borrow.Author.Tests.{not-true, not-false}
 use Rattle.sessions.specs.Poll.{is_quiet}
 use Rattle.sessions.proofs.poll.is_quiet.Goals as goal
 
@@ -8,12 +7,12 @@ returns-then-mounted c = simp c.if-mounted.true
 
 pub returns-then-not-w : goal.returns-then-not-w
 unfolding is_quiet
-returns-then-not-w c = simp (c.if-mounted.false, not-true c.args.w.session c.if-not-w.true)
+returns-then-not-w c = simp (c.if-mounted.false, c.if-not-w.true)
 
 pub returns-then-w : goal.returns-then-w
 unfolding is_quiet
-returns-then-w c = simp (c.if-mounted.false, not-false c.args.w.session c.if-not-w.false, c.if-w.true)
+returns-then-w c = simp (c.if-mounted.false, c.if-not-w.false, c.if-w.true)
 
 pub returns : goal.returns
 unfolding is_quiet
-returns c = simp (c.if-mounted.false, not-false c.args.w.session c.if-not-w.false, c.if-w.false, ← c.saturating_sub_u64.ensures)
+returns c = simp (c.if-mounted.false, c.if-not-w.false, c.if-w.false, ← c.saturating_sub_u64.ensures)

@@ -6,6 +6,6 @@ pub returns-then-mounted : goal.returns-then-mounted
 unfolding ticked with_locks with_now_ms
 returns-then-mounted c = simp c.if-mounted.true
 
-pub returns : goal.returns
+pub returns-else-mounted : goal.returns-else-mounted
 unfolding ticked with_locks with_now_ms
-returns c = simp c.if-mounted.false
+returns-else-mounted c = simp c.if-mounted.false

@@ -1,2 +1,0 @@
--- The calls of a session over the lent table, of its columns.
-pub mod Calls
