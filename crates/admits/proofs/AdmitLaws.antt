@@ -1,7 +1,7 @@
 -- A sector is taken exactly where the rules admit it.
 use Prim.Native.Nat.{ℕ, ◌+◌, ◌*◌, ◌<◌, ◌≤◌}
 use Rattle.std.proofs.Math.Bool.{Bool, true, false, not}
-use Rattle.std.specs.Prelude.{◌&&◌, ◌||◌, List, ◌≡◌, leb, ltb, length, get_or, set}
+use Rattle.std.specs.Prelude.{◌&&◌, ◌||◌, List, ◌≡◌, leb, ltb, length, get_or, set, Option, Some, None}
 use Rattle.std.proofs.Common.{true≢false, sym, ◌∙◌, arith}
 use Rattle.std.proofs.Math.Path.{refl, ap}
 use Rattle.std.proofs.Math.Dec.{eqb}
@@ -10,14 +10,11 @@ use Rattle.loops.specs.Loops.{pick, some, count}
 use Rattle.loops.specs.Choices.{either, and-0, and-no}
 use Rattle.loops.specs.Facts.{all-of, some-in, some-at, count-same, count-none}
 use Rattle.loops.specs.Found.{found-by}
-use Rattle.loops.specs.declared.Found.TheVariants.{Nothing}
 use Rattle.sector.specs.Bytes.{word}
 use Rattle.vdisk.specs.Drive.{place_of, dir_kind_of}
 use Rattle.vdisk.specs.Owner.{owner_of}
 use Rattle.vdisk.specs.declared.drive.Place.{Place}
 use Rattle.vdisk.specs.declared.drive.Place.TheVariants.{Boot, Fat, Root, Data, Outside}
-use Rattle.vdisk.specs.declared.drive.DirKind.{DirKind}
-use Rattle.vdisk.specs.declared.drive.DirKind.TheVariants.{Kind, NoDir}
 use Rattle.vdisk.specs.declared.owner.Own.{Own}
 use Rattle.vdisk.specs.declared.owner.Own.TheVariants.{Reserved, Fixed, Dyn, Free}
 use Rattle.file_table.specs.Table.{whole_columns}
@@ -83,7 +80,7 @@ module _ (x : SectorWrite) (w : W) (s : ℕ) where
       here : ℕ → Bool
       here n = eqb (get_or w.pair n pair0).c c
 
-      none : pair_idx w.pair c ≡ Nothing → some here max_pairs 0 ≡ false
+      none : pair_idx w.pair c ≡ None → some here max_pairs 0 ≡ false
       none e =
           either (some here max_pairs 0)
           (λ t. some-in here max_pairs 0 t (λ n a b q. absurd (pair_idx-none w.pair c n e (λ z. omega arith) (omega arith) (eqb-true (get_or w.pair n pair0).c c q))))
@@ -150,7 +147,7 @@ module _ (x : SectorWrite) (w : W) (c s : ℕ) where
         (either (takes_none x y s) (λ t. rw t)
         (λ t. rw t (either (is_medium x.fat x.area) (λ m. rw m (block-pass (start_staging (with_st w ss)) ∙ ap block_admits (start-hint ss))) (λ m. rw m)))))
 
-  claim-pass : slot_of w.st c ≡ Nothing → is_taken (claimed (stage_of x c s) w (free_slot w.st)) ≡ (is_place (free_slot w.st) && slot_admits x w s (slot_for c))
+  claim-pass : slot_of w.st c ≡ None → is_taken (claimed (stage_of x c s) w (free_slot w.st)) ≡ (is_place (free_slot w.st) && slot_admits x w s (slot_for c))
   unfolding claimed is_place
   claim-pass e =
       found-by (free_slot w.st) (λ i f. rw f (slot-admits i (slot_for c) (set w.st i (slot_for c)))) (λ f. rw f)
@@ -238,10 +235,10 @@ module _ (x : SectorWrite) (w : W) where
     unfolding dir_admits
     dir-covers k s e = shown-only x long _ e
 
-    cluster-pass : (c s : ℕ) (d : DirKind) → eqb (cluster x w c s d).number 0 ≡ cluster_admits x w c s d
+    cluster-pass : (c s : ℕ) (d : Option ℕ) → eqb (cluster x w c s d).number 0 ≡ cluster_admits x w c s d
     unfolding cluster cluster_admits dir
-    cluster-pass c s (Kind k) = covered-pass (dir x w k s) (dir_admits x k s) (dir-pass x k s) (dir-covers k s)
-    cluster-pass c s NoDir = either (is_host x w c) (λ e. rw e (stage-pass x w c s)) (λ e. rw e (other-pass c))
+    cluster-pass c s (Some k) = covered-pass (dir x w k s) (dir_admits x k s) (dir-pass x k s) (dir-covers k s)
+    cluster-pass c s None = either (is_host x w c) (λ e. rw e (stage-pass x w c s)) (λ e. rw e (other-pass c))
 
     place-pass : (p : Place) → eqb (at_place x w p).number 0 ≡ place_admits x w p
     unfolding at_place place_admits fat root

@@ -1,7 +1,7 @@
 -- A directory sector is taken by its handler exactly where the rules admit its bytes, and then turns the files that they say.
 use Prim.Native.Nat.{ℕ, ◌+◌, ◌*◌, ◌<◌, ◌≤◌}
 use Rattle.std.proofs.Math.Bool.{Bool, true, false, not}
-use Rattle.std.specs.Prelude.{◌&&◌, ◌||◌, ◌≡◌, ltb, eqb, length, get_or}
+use Rattle.std.specs.Prelude.{◌&&◌, ◌||◌, ◌≡◌, ltb, eqb, length, get_or, Option, Some, None}
 use Rattle.std.proofs.Common.{true≢false, ◌∙◌}
 use Rattle.std.proofs.lemmas.Bool.{false≢true}
 use Rattle.std.proofs.Math.Path.{refl, sym, ap}
@@ -12,8 +12,6 @@ use Rattle.loops.specs.Choices.{either, same-if, or-by, and-0, and-1, and-no}
 use Rattle.loops.specs.Facts.{all-at, some-in, some-at}
 use Rattle.loops.specs.Found.{found_below, find, found-by, find-lt, find-is, find-none, find-same}
 use Rattle.loops.specs.Marks.{is_at, picked_by}
-use Rattle.loops.specs.declared.Found.{Found}
-use Rattle.loops.specs.declared.Found.TheVariants.{At, Nothing}
 use Rattle.vdisk.specs.Ids.{kind_of, id_dir_of, dir_of as dir_of_kind}
 use Rattle.slots.specs.Slots.{date_at, dates_only, turn_at}
 use Rattle.root_slots.specs.OrLaws.{or-none}
@@ -51,17 +49,17 @@ found-some p n =
     (λ t. sym t)))
 
 -- what is found is the first that is so
-find-at : (p : ℕ → Bool) (n : ℕ) → is_found (find p n) ≡ true → find p n ≡ At (first p n 0)
+find-at : (p : ℕ → Bool) (n : ℕ) → is_found (find p n) ≡ true → find p n ≡ Some (first p n 0)
 unfolding find found_below is_found
 find-at p n e =
     either (ltb (first p n 0) n)
     (λ q. rw q)
     (λ q. let z : false ≡ true = rw q at e in absurd (false≢true z))
 
-not-found : (f : Found) → is_found f ≡ false → f ≡ Nothing
+not-found : (f : Option ℕ) → is_found f ≡ false → f ≡ None
 unfolding is_found
-not-found (At i) e = absurd (true≢false e)
-not-found Nothing e = refl
+not-found (Some i) e = absurd (true≢false e)
+not-found None e = refl
 
 -- byte 0 is kept or turns a file, the others are kept or dates
 slot-tests : (kept wrote was file others : Bool)
@@ -210,7 +208,7 @@ module _ (x : SectorWrite) (k s : ℕ) where
   first_file i = first (unturned_at x k (s * 16 + i)) (length x.ids) 0
 
   -- which is the first unturned one there
-  found-first : (i : ℕ) → is_found (turned_by (dir_of x k s) i) ≡ true → turned_by (dir_of x k s) i ≡ At (first_file i)
+  found-first : (i : ℕ) → is_found (turned_by (dir_of x k s) i) ≡ true → turned_by (dir_of x k s) i ≡ Some (first_file i)
   unfolding turned_by row_of is_found
   found-first i e =
       either (ltb k 3 && turn_at x.shown x.written (i * 32))

@@ -1,6 +1,6 @@
 -- A sector that isn't admitted is refused with the number that the rules give.
 use Prim.Native.Nat.{ℕ, ◌+◌, ◌*◌}
-use Rattle.std.specs.Prelude.{not, ◌&&◌, ◌||◌, List, ◌≡◌, leb, eqb, get_or, set}
+use Rattle.std.specs.Prelude.{not, ◌&&◌, ◌||◌, List, ◌≡◌, leb, eqb, get_or, set, Option, Some, None}
 use Rattle.std.proofs.Math.Path.{refl}
 use Rattle.std.proofs.Common.{◌∙◌, arith}
 use borrow.Author.Tests.{eqb-true, eqb-false, le-leb, lt-leb}
@@ -10,8 +10,6 @@ use Rattle.loops.specs.Found.{found-by}
 use Rattle.vdisk.specs.Drive.{place_of, dir_kind_of}
 use Rattle.vdisk.specs.declared.drive.Place.{Place}
 use Rattle.vdisk.specs.declared.drive.Place.TheVariants.{Boot, Fat, Root, Data, Outside}
-use Rattle.vdisk.specs.declared.drive.DirKind.{DirKind}
-use Rattle.vdisk.specs.declared.drive.DirKind.TheVariants.{Kind, NoDir}
 use Rattle.vdisk.specs.declared.owner.Own.{Own}
 use Rattle.vdisk.specs.declared.owner.Own.TheVariants.{Reserved, Fixed, Dyn, Free}
 use Rattle.records.specs.Records.{free_recs}
@@ -165,10 +163,10 @@ module _ (x : SectorWrite) (w : W) where
   data-number (Dyn j) = λ e. refl
   data-number Free = λ e. refl
 
-  cluster-number : (c s : ℕ) (d : DirKind) → RefusedBy (cluster_refusal x w c s d) (cluster x w c s d).number
+  cluster-number : (c s : ℕ) (d : Option ℕ) → RefusedBy (cluster_refusal x w c s d) (cluster x w c s d).number
   unfolding cluster cluster_refusal other_data
-  cluster-number c s (Kind k) = unless-number 9 (dir x w k s) (dir-number k s)
-  cluster-number c s NoDir =
+  cluster-number c s (Some k) = unless-number 9 (dir x w k s) (dir-number k s)
+  cluster-number c s None =
       either (is_host x w c) (λ e. rw e (stage-number x w c s))
       (λ e. rw e (unless-number (data_refusal (owner_in x w c)) (other_data x w c) (data-number (owner_in x w c))))
 

@@ -1,7 +1,7 @@
 -- A root sector is taken by its handler exactly where the rules admit its bytes.
 use Prim.Native.Nat.{ℕ, ◌+◌, ◌-◌, ◌*◌, ◌<◌, ◌≤◌}
 use Rattle.std.proofs.Math.Bool.{Bool, false}
-use Rattle.std.specs.Prelude.{true, not, ◌&&◌, ◌||◌, List, ◌≡◌}
+use Rattle.std.specs.Prelude.{true, not, ◌&&◌, ◌||◌, List, ◌≡◌, None}
 use Rattle.std.proofs.Common.{true≢false, ◌∙◌}
 use Rattle.std.proofs.Math.Path.{refl, sym}
 use native.Mathlib.Omega.{arith}
@@ -12,7 +12,6 @@ use Rattle.loops.specs.Loops.{pick, all, some, count}
 use Rattle.loops.specs.Choices.{either, same-if, or-by, or-l, and-of, and-0, and-1, and-no}
 use Rattle.loops.specs.Facts.{all-at, some-in, some-at, count-same}
 use Rattle.loops.specs.Found.{found-by}
-use Rattle.loops.specs.declared.Found.TheVariants.{Nothing}
 use Rattle.bits.specs.Bit.{bit}
 use Rattle.sector.specs.Bytes.{word, word32}
 use Rattle.slots.specs.Text.{lower_of}
@@ -195,7 +194,7 @@ module _ (x : SectorWrite) (w : W) (s : ℕ) where
       here : ℕ → Bool
       here r = eqb (get_or w.rec r no_rec).slot k
 
-      none : rec_idx w.rec k ≡ Nothing → some here max_records 0 ≡ false
+      none : rec_idx w.rec k ≡ None → some here max_records 0 ≡ false
       none e =
           either (some here max_records 0)
           (λ t. some-in here max_records 0 t (λ r a b q. absurd (rec_idx-none w.rec k r e (λ z. omega arith) (omega arith) (eqb-true (get_or w.rec r no_rec).slot k q))))

@@ -1,9 +1,7 @@
 -- Which sectors the rules of document 01 admit, place by place and without a number (document 01, "Judging a sector"), byte by byte and entry by entry.
 -- That the handlers' own tests say the same is proved in the files of laws.
-use Rattle.std.specs.Prelude.{ℕ, ◌+◌, ◌*◌, ◌/◌, ◌%◌, Bool, true, false, not, ◌&&◌, ◌||◌, List, leb, ltb, eqb, length, get_or, replicate}
+use Rattle.std.specs.Prelude.{ℕ, ◌+◌, ◌*◌, ◌/◌, ◌%◌, Bool, true, false, not, ◌&&◌, ◌||◌, List, leb, ltb, eqb, length, get_or, replicate, Option, Some, None}
 use Rattle.loops.specs.Loops.{pick, all, some, count, first}
-use Rattle.loops.specs.declared.Found.{Found}
-use Rattle.loops.specs.declared.Found.TheVariants.{At, Nothing}
 use Rattle.bits.specs.Bit.{bit}
 use Rattle.sector.specs.Bytes.{same, zeros}
 use Rattle.vdisk.specs.Drive.{place_of, dir_kind_of}
@@ -11,8 +9,6 @@ use Rattle.vdisk.specs.Ids.{turned, kind_of}
 use Rattle.vdisk.specs.Owner.{owner_of}
 use Rattle.vdisk.specs.declared.drive.Place.{Place}
 use Rattle.vdisk.specs.declared.drive.Place.TheVariants.{Boot, Fat, Root, Data, Outside}
-use Rattle.vdisk.specs.declared.drive.DirKind.{DirKind}
-use Rattle.vdisk.specs.declared.drive.DirKind.TheVariants.{Kind, NoDir}
 use Rattle.vdisk.specs.declared.owner.Own.{Own}
 use Rattle.vdisk.specs.declared.owner.Own.TheVariants.{Reserved, Fixed, Dyn, Free}
 use Rattle.file_table.specs.Table.{max_files, in_file}
@@ -173,20 +169,20 @@ unfoldable pub dir_admits : SectorWrite → ℕ → ℕ → Bool
 dir_admits x k s = only_bytes x (λ n. date_byte (place_in_slot n) || turn_byte x k s n)
 
 -- the staging slot of a cluster: its own, else the first free of 28
-unfoldable pub is_place : Found → Bool
-is_place (At i) = true
-is_place Nothing = false
+unfoldable pub is_place : Option ℕ → Bool
+is_place (Some i) = true
+is_place None = false
 
-unfoldable pub slot_place : List St → ℕ → Found
+unfoldable pub slot_place : List St → ℕ → Option ℕ
 slot_place ss c = pick (is_place (slot_of ss c)) (slot_of ss c) (free_slot ss)
 
 -- that slot as the sector finds it; a new one has no sector staged, and no block held or parked
 abbrev pub new_slot : ℕ → St
 new_slot c = record { c = c; sealed = false; ro = 0; map = 0; blk = replicate 8 0 }
 
-unfoldable pub slot_as : List St → ℕ → Found → St
-slot_as ss c (At i) = get_or ss i no_st
-slot_as ss c Nothing = new_slot c
+unfoldable pub slot_as : List St → ℕ → Option ℕ → St
+slot_as ss c (Some i) = get_or ss i no_st
+slot_as ss c None = new_slot c
 
 abbrev pub slot_before : W → ℕ → St
 slot_before w c = slot_as w.st c (slot_of w.st c)
@@ -237,9 +233,9 @@ slot_admits x w s y =
 unfoldable pub stage_admits : SectorWrite → W → ℕ → ℕ → Bool
 stage_admits x w c s = not x.busy && (is_place (slot_place w.st c) && slot_admits x w s (slot_before w c))
 
-unfoldable pub cluster_admits : SectorWrite → W → ℕ → ℕ → DirKind → Bool
-cluster_admits x w c s (Kind k) = dir_admits x k s
-cluster_admits x w c s NoDir = pick (is_host x w c) (stage_admits x w c s) (as_shown x)
+unfoldable pub cluster_admits : SectorWrite → W → ℕ → ℕ → Option ℕ → Bool
+cluster_admits x w c s (Some k) = dir_admits x k s
+cluster_admits x w c s None = pick (is_host x w c) (stage_admits x w c s) (as_shown x)
 
 unfoldable pub place_admits : SectorWrite → W → Place → Bool
 place_admits x w Boot = boot_admits x

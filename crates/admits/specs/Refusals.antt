@@ -1,11 +1,9 @@
 -- The refusal number of a sector that isn't admitted, place by place (document 01, "Judging a sector" and the two lists of refusals).
-use Rattle.std.specs.Prelude.{ℕ, ◌+◌, ◌*◌, not, ◌&&◌, ◌||◌, leb}
+use Rattle.std.specs.Prelude.{ℕ, ◌+◌, ◌*◌, not, ◌&&◌, ◌||◌, leb, Option, Some, None}
 use Rattle.loops.specs.Loops.{pick, all, first}
 use Rattle.vdisk.specs.Drive.{place_of, dir_kind_of}
 use Rattle.vdisk.specs.declared.drive.Place.{Place}
 use Rattle.vdisk.specs.declared.drive.Place.TheVariants.{Boot, Fat, Root, Data, Outside}
-use Rattle.vdisk.specs.declared.drive.DirKind.{DirKind}
-use Rattle.vdisk.specs.declared.drive.DirKind.TheVariants.{Kind, NoDir}
 use Rattle.vdisk.specs.declared.owner.Own.{Own}
 use Rattle.vdisk.specs.declared.owner.Own.TheVariants.{Reserved, Fixed, Dyn, Free}
 use Rattle.vdisk.specs.Owner.{owner_of}
@@ -53,9 +51,9 @@ data_refusal Fixed = 5
 data_refusal (Dyn j) = 13
 data_refusal Free = 13
 
-unfoldable pub cluster_refusal : SectorWrite → W → ℕ → ℕ → DirKind → ℕ
-cluster_refusal x w c s (Kind k) = 9
-cluster_refusal x w c s NoDir = pick (is_host x w c) (stage_refusal x w c s) (data_refusal (owner_of x.starts x.sizes w.first c))
+unfoldable pub cluster_refusal : SectorWrite → W → ℕ → ℕ → Option ℕ → ℕ
+cluster_refusal x w c s (Some k) = 9
+cluster_refusal x w c s None = pick (is_host x w c) (stage_refusal x w c s) (data_refusal (owner_of x.starts x.sizes w.first c))
 
 unfoldable pub place_refusal : SectorWrite → W → Place → ℕ
 place_refusal x w Boot = 3

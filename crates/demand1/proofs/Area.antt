@@ -14,8 +14,7 @@ use Rattle.loops.specs.Loops.{pick, fold}
 use Rattle.loops.specs.Choices.{either, pick-by, and-of}
 use Rattle.bits.specs.Bit.{bit}
 use Rattle.state.specs.declared.w.St.{St}
-use Rattle.medium.specs.declared.blocks.NextFree.{NextFree}
-use Rattle.medium.specs.Medium.{is_medium, has_block, block_of, free_at, search_end, next_free}
+use Rattle.medium.specs.Medium.{Free, is_medium, has_block, block_of, free_at, search_end, next_free}
 use Rattle.medium.specs.MediumLaws.{InArea, block-length}
 use Rattle.staging.specs.Blocks.{held_for, new_sector, new_block, source_block, put_part, filled_block, area_with}
 use Rattle.staging.specs.AreaLaws.{area-block}
@@ -152,7 +151,7 @@ pub free-has : (fat area : List ℕ) (hint : ℕ) → is_medium fat area ≡ tru
 unfolding next_free has_block search_end
 free-has fat area hint m =
     let b = search_end fat hint in
-    pick-by (λ (n : NextFree). n.found ≡ true → has_block fat area n.block ≡ true) (ltb b (length fat))
+    pick-by (λ (n : Free). n.found ≡ true → has_block fat area n.block ≡ true) (ltb b (length fat))
     (record { found = true; block = b; hint = b + 1 }) (record { found = false; block = 0; hint = b })
     (λ q e. and-of (is_medium fat area && leb 2 b) (ltb b (length fat))
     (and-of (is_medium fat area) (leb 2 b) m (le-leb 2 b (omega (arith, first-ge (free_at fat) (length fat - max hint 2) (max hint 2))))) q)

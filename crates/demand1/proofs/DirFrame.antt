@@ -1,5 +1,5 @@
 -- What a taken sector of a generated directory changes.
-use Rattle.std.specs.Prelude.{ℕ, true, ◌≡◌}
+use Rattle.std.specs.Prelude.{ℕ, true, ◌≡◌, Option, Some, None}
 use Rattle.std.proofs.Math.Bool.{false}
 use Rattle.std.proofs.Common.{true≢false, sym, ◌∙◌, arith}
 use Rattle.std.proofs.Math.Path.{refl}
@@ -9,8 +9,6 @@ use Rattle.loops.specs.Choices.{either}
 use Rattle.loops.specs.Facts.{some-in}
 use Rattle.loops.specs.Marks.{is_at, picked_by}
 use Rattle.loops.specs.Rows.{rows-same}
-use Rattle.loops.specs.declared.Found.{Found}
-use Rattle.loops.specs.declared.Found.TheVariants.{At, Nothing}
 use Rattle.state.specs.declared.w.W.{W}
 use Rattle.dir_sectors.specs.Dir.{DirWrite, turned_by, is_found, dir_number, turns_row, turn_id, dir_id, dir_ids, dir_changed}
 use Rattle.judge.specs.Classify.{SectorWrite, dir_of, dir}
@@ -18,10 +16,10 @@ use Rattle.admits.proofs.DirLaws.{turns-file}
 use Rattle.demand1.specs.Changes.{Same, DirOnly}
 use Rattle.demand1.proofs.Turns.{none-at, rows-still}
 
-at-found : (j : ℕ) (f : Found) → is_at j f ≡ true → is_found f ≡ true
+at-found : (j : ℕ) (f : Option ℕ) → is_at j f ≡ true → is_found f ≡ true
 unfolding is_at is_found
-at-found j (At k) e = refl
-at-found j Nothing e = e
+at-found j (Some k) e = refl
+at-found j None e = e
 
 -- where no slot turns a file, no row is turned
 none-turned : (d : DirWrite) (j : ℕ) → some (λ i. is_found (turned_by d i)) 16 0 ≡ false → turns_row d j ≡ false

@@ -1,5 +1,5 @@
 -- What a taken FAT sector leaves.
-use Rattle.std.specs.Prelude.{ℕ, ◌+◌, ◌<◌, Bool, ◌&&◌, List, ◌≡◌, set}
+use Rattle.std.specs.Prelude.{ℕ, ◌+◌, ◌<◌, Bool, ◌&&◌, List, ◌≡◌, set, Option, Some, None}
 use Rattle.std.proofs.Math.Bool.{true, false, not, true≢false}
 use Rattle.std.proofs.Math.Path.{refl}
 use Rattle.std.proofs.Common.{sym, ◌∙◌, ap}
@@ -11,8 +11,6 @@ use Rattle.loops.specs.Choices.{either, pick-by, and-of, and-0, and-1}
 use Rattle.loops.specs.Facts.{some-in}
 use Rattle.loops.specs.Keyed.{other-stands}
 use Rattle.loops.specs.Rows.{rows}
-use Rattle.loops.specs.declared.Found.{Found}
-use Rattle.loops.specs.declared.Found.TheVariants.{At, Nothing}
 use Rattle.bits.specs.Bit.{set_bit}
 use Rattle.vdisk.specs.Owner.{owner_of}
 use Rattle.vdisk.specs.declared.owner.Own.TheVariants.{Dyn}
@@ -51,10 +49,10 @@ only-set : (w v : W) (ps : List Pair) (ss : List St) (n : ℕ) → OnlyFat w v �
 unfolding with_fat1 with_pair with_st
 only-set w v ps ss n e = rw e
 
-drop-only : (w v : W) (ps : List Pair) (f : Found) → OnlyFat w v → OnlyFat w (drop_at (with_pair v ps) f)
+drop-only : (w v : W) (ps : List Pair) (f : Option ℕ) → OnlyFat w v → OnlyFat w (drop_at (with_pair v ps) f)
 unfolding with_fat1 with_pair with_st drop_at
-drop-only w v ps (At k) e = only-set w v ps (set v.st k st0) v.fat1 e
-drop-only w v ps Nothing e = only-set w v ps v.st v.fat1 e
+drop-only w v ps (Some k) e = only-set w v ps (set v.st k st0) v.fat1 e
+drop-only w v ps None e = only-set w v ps v.st v.fat1 e
 
 module _ (f : FatWrite) where
   -- the ways to apply an entry

@@ -1,5 +1,5 @@
 -- A taken FAT sector sets the pairs of its changed entries as written.
-use Rattle.std.specs.Prelude.{ℕ, ◌+◌, ◌≤◌, ◌<◌, Bool, true, false, ◌&&◌, List, ltb, eqb, get_or}
+use Rattle.std.specs.Prelude.{ℕ, ◌+◌, ◌≤◌, ◌<◌, Bool, true, false, ◌&&◌, List, ltb, eqb, get_or, Option, Some, None}
 use Rattle.std.proofs.Math.Bool.{not}
 use Rattle.std.proofs.Common.{true≢false, sym, ◌∙◌}
 use Rattle.std.proofs.Math.Path.{◌≡◌, refl, ap}
@@ -23,8 +23,6 @@ use Rattle.state.proofs.SetPairLaws.{pairs-length, pair_of-other, pair_of-same, 
 use Rattle.state.proofs.CountLaws.{free_pairs-removed, free_pairs-changed, free_pairs-added, set_pair-absent}
 use Rattle.state.specs.declared.w.Pair.{Pair}
 use Rattle.state.specs.declared.w.W.{W}
-use Rattle.state.specs.declared.pairs.PairOf.{PairOf}
-use Rattle.state.specs.declared.pairs.PairOf.TheVariants.{Value, NoPair}
 use Rattle.clusters.specs.Clusters.{is_nothing, is_live, host_own}
 use Rattle.fat_sectors.specs.Fat.{FatWrite, cluster_at, value_at, changed_at, owner_at, own_number, entry_number, refused_at, needs_pair, fat_number, freed_own, freed_by, frees_row, freed_owner, apply_at, fat_state}
 use Rattle.judge.specs.Classify.{SectorWrite, fat_of, fat}
@@ -36,13 +34,13 @@ use Rattle.demand1.proofs.FatOwn.{changed-same, value-same, differs-same, frees-
 use Rattle.demand1.proofs.FatSlots.{slot-stays, slot-dropped, fat1-sets}
 
 -- a cluster has a pair or none
-unfoldable is_none : PairOf → Bool
-is_none (Value u) = false
-is_none NoPair = true
+unfoldable is_none : Option ℕ → Bool
+is_none (Some u) = false
+is_none None = true
 
-pair-or : {R : Type 0} (p : PairOf) → ((u : ℕ) → p ≡ Value u → R) → (p ≡ NoPair → R) → R
-pair-or (Value u) g h = g u refl
-pair-or NoPair g h = h refl
+pair-or : {R : Type 0} (p : Option ℕ) → ((u : ℕ) → p ≡ Some u → R) → (p ≡ None → R) → R
+pair-or (Some u) g h = g u refl
+pair-or None g h = h refl
 
 none-pair : (ps : List Pair) (c : ℕ) → is_nothing (pair_idx ps c) ≡ is_none (pair_of ps c)
 unfolding is_nothing is_none pair_of pair_at
@@ -88,7 +86,7 @@ module _ (w : W) (f : FatWrite) (passes : (i : ℕ) → i < 256 → entry_number
   host-own i l q Free = λ g e h. refl
 
   needs-it : (i : ℕ) (v : W) → i < 256 → changed_at f i ≡ true → (cluster_at f i ≡ 1 → ⊥) → freed_owner f (owner_at f i) ≡ false
-      → (value_at f i ≡ 0 → ⊥) → pair_of v.pair (cluster_at f i) ≡ NoPair → needs v i ≡ true
+      → (value_at f i ≡ 0 → ⊥) → pair_of v.pair (cluster_at f i) ≡ None → needs v i ≡ true
   unfolding is_nothing
   needs-it i v l q n h z p =
       let o = host_own f.ids f.pairs (cluster_at f i) (owner_at f i) in

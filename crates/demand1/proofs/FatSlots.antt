@@ -1,5 +1,5 @@
 -- What a taken FAT sector does to the staging slots, and to FAT[1].
-use Rattle.std.specs.Prelude.{ℕ, ◌+◌, ◌≤◌, ◌<◌, Bool, false, ◌&&◌, length}
+use Rattle.std.specs.Prelude.{ℕ, ◌+◌, ◌≤◌, ◌<◌, Bool, false, ◌&&◌, length, Option, Some, None}
 use Rattle.std.proofs.Math.Bool.{true, not}
 use Rattle.std.proofs.Common.{true≢false, ◌∙◌, arith, get_or-set_same}
 use Rattle.std.proofs.Math.Path.{◌≡◌, refl, sym, ap}
@@ -10,7 +10,6 @@ use Rattle.loops.specs.Loops.{some, fold}
 use Rattle.loops.specs.Choices.{either, and-of, and-0, and-1}
 use Rattle.loops.specs.Facts.{some-in, some-at}
 use Rattle.loops.specs.Keyed.{used-only}
-use Rattle.loops.specs.declared.Found.TheVariants.{At}
 use Rattle.state.specs.State.{max_slots, no_st, st0}
 use Rattle.state.specs.Setters.{with_fat1, with_pair, with_st}
 use Rattle.state.specs.Pairs.{pair_of, drop_at, set_pair}
@@ -18,8 +17,6 @@ use Rattle.state.specs.Staged.{is_slot, slot_of}
 use Rattle.state.proofs.LookupLaws.{st_key, NoSlotTwice, none-pair_of, some-pair_of, pair_idx-is}
 use Rattle.state.proofs.SetPairLaws.{set_pair-removed, set_pair-none, set_pair-st, set_pair-only, slots-length, pair_of-other, slot-stands, no_slot_twice-set_pair}
 use Rattle.state.specs.declared.w.W.{W}
-use Rattle.state.specs.declared.pairs.PairOf.{PairOf}
-use Rattle.state.specs.declared.pairs.PairOf.TheVariants.{Value, NoPair}
 use Rattle.fat_sectors.specs.Fat.{FatWrite, cluster_at, value_at, changed_at, owner_at, freed_owner, apply_at}
 use Rattle.demand1.specs.Sound.{Sound}
 use Rattle.demand1.specs.Changes.{is_value}
@@ -27,17 +24,17 @@ use Rattle.demand1.proofs.Turns.{fold-on, fold-at}
 use Rattle.demand1.proofs.FatFrame.{sets_in, removed_in, apply-cases, apply-pairs}
 
 -- a cluster has a pair or none
-value-or : {R : Type 0} (p : PairOf) → ((u : ℕ) → p ≡ Value u → R) → (is_value p ≡ false → p ≡ NoPair → R) → R
+value-or : {R : Type 0} (p : Option ℕ) → ((u : ℕ) → p ≡ Some u → R) → (is_value p ≡ false → p ≡ None → R) → R
 unfolding is_value
-value-or (Value u) g h = g u refl
-value-or NoPair g h = h refl refl
+value-or (Some u) g h = g u refl
+value-or None g h = h refl refl
 
 module _ (w : W) (f : FatWrite) where
   abbrev removes : ℕ → ℕ → Bool
   removes k i = sets_in f i && eqb (cluster_at f i) k && eqb (value_at f i) 0
 
   -- where cluster k's pair isn't removed, an entry of it that sets 0 finds no pair
-  not-removed : (k i : ℕ) → removed_in f k ≡ false → i < 256 → sets_in f i ≡ true → cluster_at f i ≡ k → value_at f i ≡ 0 → pair_of f.pairs k ≡ NoPair
+  not-removed : (k i : ℕ) → removed_in f k ≡ false → i < 256 → sets_in f i ≡ true → cluster_at f i ≡ k → value_at f i ≡ 0 → pair_of f.pairs k ≡ None
   unfolding removed_in is_value
   not-removed k i e l q c z =
       let a : removes k i ≡ true = and-of (sets_in f i && eqb (cluster_at f i) k) (eqb (value_at f i) 0)
@@ -67,7 +64,7 @@ module _ (w : W) (f : FatWrite) where
         either (eqb c cluster)
         (λ y. let z = eqb-true c cluster y in
         either (eqb a 0)
-        (λ t. let p : pair_of v.pair c ≡ NoPair = rw z (h.1 i (omega arith) z ∙ (rw same at (not-removed cluster i e l q z (eqb-true a 0 t)))) in
+        (λ t. let p : pair_of v.pair c ≡ None = rw z (h.1 i (omega arith) z ∙ (rw same at (not-removed cluster i e l q z (eqb-true a 0 t)))) in
         rw (set_pair-none v c a (none-pair_of v.pair c p) (eqb-true a 0 t)) h.0)
         (λ t. rw (set_pair-st v c a (eqb-false a 0 t)) h.0))
         (λ y. slot-stands v c a n (λ z. eqb-false c cluster y (sym z ∙ ap st_key h.0)) ∙ h.0)
@@ -99,7 +96,7 @@ module _ (w : W) (f : FatWrite) where
           slots-length v c a ∙ h.3,
         ))
 
-    drops : (at : ℕ) → n < max_slots → sets_in f at ≡ true → cluster_at f at ≡ cluster → value_at f at ≡ 0 → (u : ℕ) → pair_of w.pair cluster ≡ Value u
+    drops : (at : ℕ) → n < max_slots → sets_in f at ≡ true → cluster_at f at ≡ cluster → value_at f at ≡ 0 → (u : ℕ) → pair_of w.pair cluster ≡ Some u
         → (v : W) → Ready v → get_or (apply_at f at v).st n no_st ≡ st0
     unfolding apply_at sets_in slot_of is_slot drop_at with_pair with_st
     drops at l q z e u p v h =
@@ -109,7 +106,7 @@ module _ (w : W) (f : FatWrite) where
         let g = not (freed_owner f (owner_at f at)) in
         let q0 = and-0 (changed_at f at && b) g q in
         let used : c ≡ 0 → ⊥ = λ y. some-pair_of w.pair cluster u p (λ i r t. (pair_idx-is w.pair cluster i r).1 (sym z ∙ y)) in
-        let found : slot_of v.st c ≡ At n = used-only st_key no_st max_slots v.st h.2 c n l (ap st_key h.0 ∙ sym z) used in
+        let found : slot_of v.st c ≡ Some n = used-only st_key no_st max_slots v.st h.2 c n l (ap st_key h.0 ∙ sym z) used in
         rw (and-0 (changed_at f at) b q0, not-true (eqb c 1) (and-1 (changed_at f at) b q0), not-true (freed_owner f (owner_at f at)) (and-1 (changed_at f at && b) g q))
         (some-pair_of v.pair c u (rw z (h.1 ∙ p))
         (λ i r t. rw (set_pair-removed v c a i r e, found) (get_or-set_same v.st n st0 no_st (rw h.3 l))))

@@ -1,5 +1,5 @@
 -- Every classified sector, by its place: fair where it is refused, and changing what is listed where it is taken.
-use Rattle.std.specs.Prelude.{ℕ, true, length, get_or}
+use Rattle.std.specs.Prelude.{ℕ, true, length, get_or, Option, Some, None}
 use Rattle.std.proofs.Math.Bool.{false}
 use Rattle.std.proofs.Common.{true≢false, sym, ◌∙◌}
 use Rattle.std.proofs.Math.Path.{◌≡◌, refl}
@@ -9,8 +9,6 @@ use Rattle.sector.specs.Bytes.{same}
 use Rattle.vdisk.specs.Drive.{dir_kind_of}
 use Rattle.vdisk.specs.declared.drive.Place.{Place}
 use Rattle.vdisk.specs.declared.drive.Place.TheVariants.{Boot, Fat, Root, Data, Outside}
-use Rattle.vdisk.specs.declared.drive.DirKind.{DirKind}
-use Rattle.vdisk.specs.declared.drive.DirKind.TheVariants.{Kind, NoDir}
 use Rattle.vdisk.specs.declared.owner.Own.{Own}
 use Rattle.vdisk.specs.declared.owner.Own.TheVariants.{Reserved, Fixed, Dyn, Free}
 use Rattle.state.specs.Setters.{with_boot}
@@ -72,17 +70,17 @@ module _ (x : SectorWrite) (w : W) where
   data-refused Free = λ (e : ◌≡◌ {A = ℕ} 13 0). omega arith
 
   module _ (wide : length x.written ≡ 512) (c s : ℕ) where
-    abbrev JudgedIn : DirKind → Outcome → Type 0
+    abbrev JudgedIn : Option ℕ → Outcome → Type 0
     JudgedIn d o = Judged x w (claimed_in x w c s) (λ r. InCluster x w c s r d) o
 
-    judged-data : is_host x w c ≡ false → JudgedIn NoDir (unless_shown x w (other_data x w c))
+    judged-data : is_host x w c ≡ false → JudgedIn None (unless_shown x w (other_data x w c))
     unfolding other_data InCluster
     judged-data e =
         let j = unless-by (claimed_in x w c s) (λ o. ⊥) (other_data x w c) (fair-data x w (claimed_in x w c s) c)
         (λ n. absurd (data-refused (owner_in x w c) n)) (λ n. data-refused (owner_in x w c) n) in
         record { fair = j.fair; unchanged = j.unchanged; changes = λ n. (λ h. absurd (true≢false (sym h ∙ e)), λ h d. j.changes n d) }
 
-    judged-stage : is_host x w c ≡ true → JudgedIn NoDir (outcome_of (stage (stage_of x c s) w))
+    judged-stage : is_host x w c ≡ true → JudgedIn None (outcome_of (stage (stage_of x c s) w))
     unfolding InCluster
     judged-stage e =
         record {
@@ -91,11 +89,11 @@ module _ (x : SectorWrite) (w : W) where
           changes = λ n. (λ h t. (done-stage x w c s wide).0 n t, λ h. absurd (true≢false (sym e ∙ h)));
         }
 
-    judged-cluster : (d : DirKind) → JudgedIn d (cluster x w c s d)
+    judged-cluster : (d : Option ℕ) → JudgedIn d (cluster x w c s d)
     unfolding cluster InCluster
-    judged-cluster (Kind k) = unless-by (claimed_in x w c s) (DirOnly x w k s) (dir x w k s) (fair-dir x w (claimed_in x w c s) k s) (dir-same x w k s) (dir-only x w k s)
-    judged-cluster NoDir =
-        pick-by (JudgedIn NoDir) (is_host x w c) (outcome_of (stage (stage_of x c s) w)) (unless_shown x w (other_data x w c)) judged-stage judged-data
+    judged-cluster (Some k) = unless-by (claimed_in x w c s) (DirOnly x w k s) (dir x w k s) (fair-dir x w (claimed_in x w c s) k s) (dir-same x w k s) (dir-only x w k s)
+    judged-cluster None =
+        pick-by (JudgedIn None) (is_host x w c) (outcome_of (stage (stage_of x c s) w)) (unless_shown x w (other_data x w c)) judged-stage judged-data
 
   pub judged : length x.written ≡ 512 → (p : Place) → Judged x w (claimed_state x w p) (λ o. AtPlace x w o p) (at_place x w p)
   unfolding at_place claimed_state cluster_of sector_in AtPlace is_listed

@@ -1,5 +1,5 @@
 -- What a taken root sector changes.
-use Rattle.std.specs.Prelude.{ℕ, ◌+◌, ◌*◌, ◌<◌, true, ◌&&◌, List, ◌≡◌, take, drop}
+use Rattle.std.specs.Prelude.{ℕ, ◌+◌, ◌*◌, ◌<◌, true, ◌&&◌, List, ◌≡◌, take, drop, Option, Some, None}
 use Rattle.std.proofs.Math.Bool.{false, true≢false}
 use Rattle.std.proofs.Math.Path.{refl, ap}
 use Rattle.std.proofs.Common.{sym, ◌∙◌, get_or-set_other}
@@ -9,8 +9,6 @@ use borrow.Author.Tests.{eqb-true, eqb-false, eq-eqb}
 use Rattle.loops.specs.Loops.{some}
 use Rattle.loops.specs.Choices.{either, pick-by, and-of}
 use Rattle.loops.specs.Found.{found-by}
-use Rattle.loops.specs.declared.Found.{Found}
-use Rattle.loops.specs.declared.Found.TheVariants.{At, Nothing}
 use Rattle.records.specs.Records.{no_rec, rec_idx, free_rec, root_rec_at, root_rec}
 use Rattle.records.specs.RecordLaws.{rec_idx-is, free_rec-is, root_rec-other}
 use Rattle.records.specs.declared.Rec.{Rec}
@@ -25,7 +23,7 @@ use Rattle.demand1.proofs.RootOwn.{slot_kept, stored-same}
 use Rattle.demand1.proofs.Turns.{fold-in, none-at}
 
 -- root slot 0 has no record
-rec-zero : (recs : List Rec) → rec_idx recs 0 ≡ Nothing
+rec-zero : (recs : List Rec) → rec_idx recs 0 ≡ None
 rec-zero recs = found-by (rec_idx recs 0) (λ i e. absurd ((rec_idx-is recs 0 i e).1 refl)) (λ e. e)
 
 zero-same : (a b : List Rec) → root_rec a 0 ≡ root_rec b 0
@@ -34,10 +32,10 @@ zero-same a b = rw (rec-zero a, rec-zero b)
 
 -- a record put into its place leaves the others
 module _ (v : W) (r : Rec) where
-  put-only : (f : Found) → put_at v r f ≡ with_rec v (put_at v r f).rec
+  put-only : (f : Option ℕ) → put_at v r f ≡ with_rec v (put_at v r f).rec
   unfolding put_at with_rec
-  put-only (At i) = refl
-  put-only Nothing = refl
+  put-only (Some i) = refl
+  put-only None = refl
 
   pub put-other : (k : ℕ) → (r.slot ≡ k → ⊥) → root_rec (put_at v r (place_of v.rec (rec_idx v.rec r.slot))).rec k ≡ root_rec v.rec k
   unfolding put_at with_rec place_of

@@ -1,5 +1,5 @@
 -- A taken root sector keeps every changed host slot as written.
-use Rattle.std.specs.Prelude.{ℕ, ◌+◌, ◌*◌, ◌≤◌, ◌<◌, Bool, true, ◌&&◌, List, ◌≡◌, ltb, length, set, take, drop}
+use Rattle.std.specs.Prelude.{ℕ, ◌+◌, ◌*◌, ◌≤◌, ◌<◌, Bool, true, ◌&&◌, List, ◌≡◌, ltb, length, set, take, drop, Some, None}
 use Rattle.std.proofs.Math.Bool.{not}
 use Rattle.std.proofs.Common.{true≢false, sym, ◌∙◌}
 use Rattle.std.proofs.Math.Path.{refl, ap}
@@ -10,7 +10,6 @@ use Rattle.loops.specs.Loops.{pick, first, count}
 use Rattle.loops.specs.Choices.{picked, and-1, and-of}
 use Rattle.loops.specs.Facts.{first-at}
 use Rattle.loops.specs.Found.{found-by}
-use Rattle.loops.specs.declared.Found.TheVariants.{At, Nothing}
 use Rattle.records.specs.Records.{max_records, rec_idx, free_rec, free_recs, root_rec_at, root_rec}
 use Rattle.records.specs.RecordLaws.{rec_idx-is, free_rec-lt, free_rec-is, free_rec-none, free_recs-taken, free_recs-over, root_rec-over, root_rec-new}
 use Rattle.records.specs.declared.Rec.{Rec}
@@ -33,9 +32,9 @@ none-found recs k = found-by (rec_idx recs k) (λ i e. rw e) (λ e. rw e)
 
 -- the ways to put a record
 pub put-by : (P : W → Type 0) (v : W) (r : Rec)
-    → ((k : ℕ) → rec_idx v.rec r.slot ≡ At k → P (with_rec v (set v.rec k r)))
-    → ((k : ℕ) → rec_idx v.rec r.slot ≡ Nothing → free_rec v.rec ≡ At k → P (with_rec v (set v.rec k r)))
-    → (rec_idx v.rec r.slot ≡ Nothing → free_rec v.rec ≡ Nothing → P v)
+    → ((k : ℕ) → rec_idx v.rec r.slot ≡ Some k → P (with_rec v (set v.rec k r)))
+    → ((k : ℕ) → rec_idx v.rec r.slot ≡ None → free_rec v.rec ≡ Some k → P (with_rec v (set v.rec k r)))
+    → (rec_idx v.rec r.slot ≡ None → free_rec v.rec ≡ None → P v)
     → P (put_at v r (place_of v.rec (rec_idx v.rec r.slot)))
 unfolding put_at place_of
 put-by P v r over new full =
@@ -58,7 +57,7 @@ module _ (f : RootWrite) where
       let q = leb-false (slot_at f i) 6 (not-true (is_own f i) (and-1 (changed_at f i) (not (is_own f i)) e)) in
       omega arith
 
-  needs-it : (v : W) (i : ℕ) → kept_at f i ≡ true → rec_idx v.rec (slot_at f i) ≡ Nothing → needs v i ≡ true
+  needs-it : (v : W) (i : ℕ) → kept_at f i ≡ true → rec_idx v.rec (slot_at f i) ≡ None → needs v i ≡ true
   unfolding is_nothing
   needs-it v i k e = and-of (kept_at f i) (is_nothing (rec_idx v.rec (slot_at f i))) k (rw e)
 

@@ -1,5 +1,5 @@
 -- The state first stands sound, and `write` keeps it so.
-use Rattle.std.specs.Prelude.{ℕ, ◌+◌, ◌/◌, ◌<◌, not, ◌&&◌, ◌||◌, List, ◌≡◌, eqb, length, get_or, set, replicate}
+use Rattle.std.specs.Prelude.{ℕ, ◌+◌, ◌/◌, ◌<◌, not, ◌&&◌, ◌||◌, List, ◌≡◌, eqb, length, get_or, set, replicate, Option, Some, None}
 use Rattle.std.proofs.Math.Path.{refl}
 use Rattle.std.proofs.Common.{sym, ◌∙◌, ap, get_or-set_same, eqb-true}
 use Rattle.std.proofs.Math.ListN.{length-set}
@@ -9,13 +9,10 @@ use Rattle.loops.specs.Choices.{either, pick-has}
 use Rattle.loops.specs.Facts.{fold-keeps}
 use Rattle.loops.specs.Found.{found-by}
 use Rattle.loops.specs.Keyed.{set-has, no_twice-set}
-use Rattle.loops.specs.declared.Found.TheVariants.{At, Nothing}
 use Rattle.sector.specs.Bytes.{same, zeros}
 use Rattle.vdisk.specs.Drive.{place_of, dir_kind_of}
 use Rattle.vdisk.specs.declared.drive.Place.{Place}
 use Rattle.vdisk.specs.declared.drive.Place.TheVariants.{Boot, Fat, Root, Data, Outside}
-use Rattle.vdisk.specs.declared.drive.DirKind.{DirKind}
-use Rattle.vdisk.specs.declared.drive.DirKind.TheVariants.{Kind, NoDir}
 use Rattle.records.specs.Records.{max_records, no_rec, rec0, rec_idx}
 use Rattle.records.specs.RecordLaws.{NoRecTwice, rec_idx-lt, rec_idx-is, rec_idx-none, no_rec_twice-set}
 use Rattle.records.specs.declared.Rec.{Rec}
@@ -107,7 +104,7 @@ slots-over ss i z h l e b = (
 )
 
 -- one claimed for a cluster that has none
-slots-claim : (ss : List St) (i c : ℕ) → Slots ss → slot_of ss c ≡ Nothing → Slots (set ss i (slot_for c))
+slots-claim : (ss : List St) (i c : ℕ) → Slots ss → slot_of ss c ≡ None → Slots (set ss i (slot_for c))
 slots-claim ss i c h e = (
   length-set ss i (slot_for c) ∙ h.0,
   (
@@ -151,7 +148,7 @@ module _ (x : SectorWrite) (w : W) (h : Sound w) where
           (sound-slots _ w refl refl (slots-over ss i (written_st y s) g l own long) h)
           (pick-has SoundStage (is_medium x.fat x.area) _ _ (sound-block (hint_of w)) (at-slots (hint_of w)))))
 
-    sound-claimed : slot_of w.st c ≡ Nothing → SoundStage (claimed (stage_of x c s) w (free_slot w.st))
+    sound-claimed : slot_of w.st c ≡ None → SoundStage (claimed (stage_of x c s) w (free_slot w.st))
     unfolding claimed
     sound-claimed e =
         found-by (free_slot w.st)
@@ -193,13 +190,13 @@ module _ (x : SectorWrite) (w : W) (h : Sound w) where
       record { pairs = g.pairs; recs = length-set v.rec k r ∙ g.recs; slots = g.slots; blocks = g.blocks; one-pair = g.one-pair; one-rec = t; one-slot = g.one-slot }
 
   -- a record goes over its root slot's own, or to a free place where it has none
-  put-over : (v : W) (k : ℕ) (r : Rec) → Sound v → rec_idx v.rec r.slot ≡ At k → NoRecTwice (set v.rec k r)
+  put-over : (v : W) (k : ℕ) (r : Rec) → Sound v → rec_idx v.rec r.slot ≡ Some k → NoRecTwice (set v.rec k r)
   put-over v k r g e =
       let u = rec_idx-is v.rec r.slot k e in
       no_rec_twice-set v.rec k r g.one-rec
       (λ j l n q. absurd (n (g.one-rec j k l (rec_idx-lt v.rec r.slot k e) (λ y. u.1 (sym q ∙ y)) (q ∙ sym u.0))))
 
-  put-new : (v : W) (k : ℕ) (r : Rec) → Sound v → rec_idx v.rec r.slot ≡ Nothing → NoRecTwice (set v.rec k r)
+  put-new : (v : W) (k : ℕ) (r : Rec) → Sound v → rec_idx v.rec r.slot ≡ None → NoRecTwice (set v.rec k r)
   put-new v k r g e =
       no_rec_twice-set v.rec k r g.one-rec
       (λ j l n q. either (eqb r.slot 0) (eqb-true r.slot 0) (λ y. absurd (rec_idx-none v.rec r.slot j e (eqb-false r.slot 0 y) l q)))
@@ -222,10 +219,10 @@ module _ (x : SectorWrite) (w : W) (h : Sound w) where
   unfolding boot with_boot
   sound-boot = pick-has (λ (r : Outcome). Sound r.w) (boot_passes x.shown x.written) _ (refused x w 3) (sound-as _ w refl refl refl h) h
 
-  sound-cluster : (c s : ℕ) (d : DirKind) → Sound (cluster x w c s d).w
+  sound-cluster : (c s : ℕ) (d : Option ℕ) → Sound (cluster x w c s d).w
   unfolding cluster dir other_data
-  sound-cluster c s (Kind k) = unless-sound (dir x w k s) h
-  sound-cluster c s NoDir =
+  sound-cluster c s (Some k) = unless-sound (dir x w k s) h
+  sound-cluster c s None =
       pick-has (λ (r : Outcome). Sound r.w) (is_host x w c) (outcome_of (stage (stage_of x c s) w)) (unless_shown x w (other_data x w c)) (sound-stage c s)
       (unless-sound (other_data x w c) h)
 

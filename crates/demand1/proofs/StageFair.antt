@@ -1,12 +1,10 @@
 -- Staging ends with a listed number, and refused it leaves what is listed for it.
-use Rattle.std.specs.Prelude.{ℕ, true, not, ◌&&◌, ◌||◌, List, ◌≡◌, eqb, get_or, set}
+use Rattle.std.specs.Prelude.{ℕ, true, not, ◌&&◌, ◌||◌, List, ◌≡◌, eqb, get_or, set, Option, None}
 use Rattle.std.proofs.Math.Bool.{false}
 use Rattle.std.proofs.Math.Path.{refl, subst}
 use Rattle.std.proofs.Common.{sym}
 use Rattle.loops.specs.Choices.{either, pick-has, pick-by, and-no}
 use Rattle.loops.specs.Found.{found-by}
-use Rattle.loops.specs.declared.Found.{Found}
-use Rattle.loops.specs.declared.Found.TheVariants.{Nothing}
 use Rattle.sector.specs.Bytes.{same}
 use Rattle.state.specs.State.{no_st}
 use Rattle.state.specs.Setters.{with_st, with_staging, with_hint, with_stage_t}
@@ -95,19 +93,19 @@ module _ (x : SectorWrite) (w : W) (c s : ℕ) where
         (pick-by FairStage (takes_none x y s) _ _ (λ z. fair-taken _ refl)
         (λ z. pick-by FairStage (is_medium x.fat x.area) _ _ (fair-block z) (λ m. fair-17 (hint_of w) (hint-off x w c s y before m)))))
 
-  fair-claimed : slot_of w.st c ≡ Nothing → FairStage (claimed (stage_of x c s) w (free_slot w.st))
+  fair-claimed : slot_of w.st c ≡ None → FairStage (claimed (stage_of x c s) w (free_slot w.st))
   unfolding claimed claimed_slots claim_at is_place is_listed slot_as
   fair-claimed e =
       found-by (free_slot w.st)
-      (λ i f. subst (λ (g : Found). FairStage (claimed (stage_of x c s) w g)) (sym f) (fair-slot (set w.st i (slot_for c)) (rw (e, f)) i (slot_for c) (rw e)))
-      (λ f. subst (λ (g : Found). FairStage (claimed (stage_of x c s) w g)) (sym f) (record { listed = refl; judged = refl; ids = λ h. refl; area = λ h. refl; state = λ h. refl }))
+      (λ i f. subst (λ (g : Option ℕ). FairStage (claimed (stage_of x c s) w g)) (sym f) (fair-slot (set w.st i (slot_for c)) (rw (e, f)) i (slot_for c) (rw e)))
+      (λ f. subst (λ (g : Option ℕ). FairStage (claimed (stage_of x c s) w g)) (sym f) (record { listed = refl; judged = refl; ids = λ h. refl; area = λ h. refl; state = λ h. refl }))
 
   fair-found : FairStage (in_found (stage_of x c s) w (slot_of w.st c))
   unfolding in_found claimed_slots is_place slot_as
   fair-found =
       found-by (slot_of w.st c)
-      (λ i e. subst (λ (g : Found). FairStage (in_found (stage_of x c s) w g)) (sym e) (rw (as-was w) at (fair-slot w.st (rw e) i (get_or w.st i no_st) (rw e))))
-      (λ e. subst (λ (g : Found). FairStage (in_found (stage_of x c s) w g)) (sym e) (fair-claimed e))
+      (λ i e. subst (λ (g : Option ℕ). FairStage (in_found (stage_of x c s) w g)) (sym e) (rw (as-was w) at (fair-slot w.st (rw e) i (get_or w.st i no_st) (rw e))))
+      (λ e. subst (λ (g : Option ℕ). FairStage (in_found (stage_of x c s) w g)) (sym e) (fair-claimed e))
 
   pub fair-stage : FairStage (stage (stage_of x c s) w)
   unfolding stage is_listed

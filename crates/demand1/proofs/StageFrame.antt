@@ -1,5 +1,5 @@
 -- What a staged sector changes.
-use Rattle.std.specs.Prelude.{ℕ, ◌<◌, Bool, true, false, not, ◌&&◌, ◌||◌, ◌≡◌, eqb, length, get_or, set}
+use Rattle.std.specs.Prelude.{ℕ, ◌<◌, Bool, true, false, not, ◌&&◌, ◌||◌, ◌≡◌, eqb, length, get_or, set, Option, Some, None}
 use Rattle.std.proofs.Common.{true≢false, sym, ◌∙◌, arith, length-set, get_or-set_same}
 use mathlib.Core.List.{List}
 use Rattle.std.proofs.Math.Path.{refl, ap, subst}
@@ -10,8 +10,6 @@ use Rattle.loops.specs.Loops.{pick}
 use Rattle.loops.specs.Choices.{pick-by, or-by, or-no, and-0, and-1}
 use Rattle.loops.specs.Found.{found-by}
 use Rattle.loops.specs.Rows.{rows, rows-same}
-use Rattle.loops.specs.declared.Found.{Found}
-use Rattle.loops.specs.declared.Found.TheVariants.{At, Nothing}
 use Rattle.num.specs.Num.{wrapping_next}
 use Rattle.bits.specs.Bit.{set_bit}
 use Rattle.sector.specs.Bytes.{same, zeros}
@@ -42,10 +40,10 @@ use Rattle.demand1.proofs.Turns.{rows-still}
 use Rattle.demand1.proofs.StageFair.{started, as-was, hint-none, hint-held, hint-searched}
 
 -- the place of a cluster's slot is one of the slots'
-place-lt : (ss : List St) (c i : ℕ) → slot_place ss c ≡ At i → i < max_slots
+place-lt : (ss : List St) (c i : ℕ) → slot_place ss c ≡ Some i → i < max_slots
 unfolding slot_place is_place
 place-lt ss c i =
-    found-by (slot_of ss c) (λ k e. rw e (λ (q : At k ≡ At i). let n : k ≡ i = cc in rw (← n) (slot_of-lt ss c k e))) (λ e. rw e (free_slot-lt ss i))
+    found-by (slot_of ss c) (λ k e. rw e (λ (q : Some k ≡ Some i). let n : k ≡ i = cc in rw (← n) (slot_of-lt ss c k e))) (λ e. rw e (free_slot-lt ss i))
 
 -- the slot as a sector finds it is the cluster's own, and has eight block numbers
 before-own : (w : W) (c : ℕ) → (slot_before w c).c ≡ c
@@ -77,15 +75,15 @@ module _ (x : SectorWrite) (w : W) (c s : ℕ) where
   not-taken r h = (λ e. absurd (h e), λ e. absurd (h e))
 
   -- slot i, which is y, with the slots ss once it is claimed
-  module _ (ss : List St) (i : ℕ) (y : St) (place : slot_place w.st c ≡ At i) (before : slot_before w c ≡ y)
+  module _ (ss : List St) (i : ℕ) (y : St) (place : slot_place w.st c ≡ Some i) (before : slot_before w c ≡ y)
       (long : length ss ≡ length w.st) (stands : (k : ℕ) → (k ≡ i → ⊥) → get_or ss k no_st ≡ get_or w.st k no_st) (own : is_parked y s ≡ true → ss ≡ w.st)
       (wide : length x.written ≡ 512) where
-    others : (z : St) (k : ℕ) → (slot_place w.st c ≡ At k → ⊥) → get_or (set ss i z) k no_st ≡ get_or w.st k no_st
+    others : (z : St) (k : ℕ) → (slot_place w.st c ≡ Some k → ⊥) → get_or (set ss i z) k no_st ≡ get_or w.st k no_st
     others z k n = let h : k ≡ i → ⊥ = λ e. n (rw e place) in get_or-set_other ss i k z no_st h ∙ stands k h
 
-    the-slot : (z : St) → Sound w → (k : ℕ) → slot_place w.st c ≡ At k → get_or (set ss i z) k no_st ≡ z
+    the-slot : (z : St) → Sound w → (k : ℕ) → slot_place w.st c ≡ Some k → get_or (set ss i z) k no_st ≡ z
     the-slot z h k e =
-        let q : At i ≡ At k = sym place ∙ e in
+        let q : Some i ≡ Some k = sym place ∙ e in
         let n : i ≡ k = cc in
         let l : i < length ss = rw (long, h.slots) (place-lt w.st c i place) in
         rw (← n) (get_or-set_same ss i z no_st l)
@@ -179,21 +177,21 @@ module _ (x : SectorWrite) (w : W) (c s : ℕ) where
         (λ z. pick-by Done (is_medium x.fat x.area) _ _ (done-block z) (λ m. not-taken _ (λ r. omega arith)))))
 
   module _ (wide : length x.written ≡ 512) where
-    done-claimed : slot_of w.st c ≡ Nothing → Done (claimed (stage_of x c s) w (free_slot w.st))
+    done-claimed : slot_of w.st c ≡ None → Done (claimed (stage_of x c s) w (free_slot w.st))
     unfolding claimed slot_place is_place slot_as is_parked
     done-claimed e =
         found-by (free_slot w.st)
-        (λ i f. subst (λ (g : Found). Done (claimed (stage_of x c s) w g)) (sym f)
+        (λ i f. subst (λ (g : Option ℕ). Done (claimed (stage_of x c s) w g)) (sym f)
         (done-slot (set w.st i (slot_for c)) i (slot_for c) (rw (e, f)) (rw e) (length-set w.st i (slot_for c)) (λ k h. get_or-set_other w.st i k (slot_for c) no_st h)
         (λ q. let z = bit-le 0 (block_at s) q in let p = pow_pos (block_at s) in absurd (omega arith)) wide))
-        (λ f. subst (λ (g : Found). Done (claimed (stage_of x c s) w g)) (sym f) (not-taken (refused (stage_of x c s) 16 w) (λ r. omega arith)))
+        (λ f. subst (λ (g : Option ℕ). Done (claimed (stage_of x c s) w g)) (sym f) (not-taken (refused (stage_of x c s) 16 w) (λ r. omega arith)))
 
     done-found : Done (in_found (stage_of x c s) w (slot_of w.st c))
     unfolding in_found slot_place is_place slot_as
     done-found =
         found-by (slot_of w.st c)
-        (λ i e. subst (λ (g : Found). Done (in_found (stage_of x c s) w g)) (sym e) (rw (as-was w) at (done-slot w.st i (get_or w.st i no_st) (rw e) (rw e) refl (λ k h. refl) (λ q. refl) wide)))
-        (λ e. subst (λ (g : Found). Done (in_found (stage_of x c s) w g)) (sym e) (done-claimed e))
+        (λ i e. subst (λ (g : Option ℕ). Done (in_found (stage_of x c s) w g)) (sym e) (rw (as-was w) at (done-slot w.st i (get_or w.st i no_st) (rw e) (rw e) refl (λ k h. refl) (λ q. refl) wide)))
+        (λ e. subst (λ (g : Option ℕ). Done (in_found (stage_of x c s) w g)) (sym e) (done-claimed e))
 
     pub done-stage : Done (stage (stage_of x c s) w)
     unfolding stage

@@ -1,5 +1,5 @@
 -- Demand 1 holds of every sector write and every state.
-use Rattle.std.specs.Prelude.{ℕ, Bool, true, not, ◌&&◌, ◌||◌, List, ◌≡◌, length}
+use Rattle.std.specs.Prelude.{ℕ, Bool, true, not, ◌&&◌, ◌||◌, List, ◌≡◌, length, Option, Some, None}
 use Rattle.std.proofs.Math.Bool.{false}
 use Rattle.std.proofs.Math.Path.{refl, ap}
 use Rattle.std.proofs.Common.{sym, ◌∙◌, arith}
@@ -10,8 +10,6 @@ use Rattle.loops.specs.Loops.{pick}
 use Rattle.vdisk.specs.Drive.{place_of, dir_kind_of}
 use Rattle.vdisk.specs.declared.drive.Place.{Place}
 use Rattle.vdisk.specs.declared.drive.Place.TheVariants.{Boot, Fat, Root, Data, Outside}
-use Rattle.vdisk.specs.declared.drive.DirKind.{DirKind}
-use Rattle.vdisk.specs.declared.drive.DirKind.TheVariants.{Kind, NoDir}
 use Rattle.state.specs.Setters.{with_boot, with_fat1, with_pair, with_rec, with_st, with_staging, with_stage_t, with_hint, with_ver, with_session, with_last, with_err, with_n}
 use Rattle.records.specs.declared.Rec.{Rec}
 use Rattle.state.specs.declared.w.Pair.{Pair}
@@ -137,11 +135,11 @@ module _ (x : SectorWrite) (w : W) where
   module _ {A : Type 0} (get : W → A) (boot : (b : ℕ) → get (with_boot w b) ≡ get w)
       (fat : (ps : List Pair) (ss : List St) (n : ℕ) → get (with_fat1 (with_pair (with_st w ss) ps) n) ≡ get w) (rec : (rs : List Rec) → get (with_rec w rs) ≡ get w)
       (stage : (ss : List St) (hint ver : ℕ) → get (with_ver (staging_state w ss hint) ver) ≡ get w) where
-    kept-in : (o : Outcome) (c s : ℕ) (d : DirKind) → not (unchanged_in x w c s d || dates_in x d) ≡ true → InCluster x w c s o d → get o.w ≡ get w
+    kept-in : (o : Outcome) (c s : ℕ) (d : Option ℕ) → not (unchanged_in x w c s d || dates_in x d) ≡ true → InCluster x w c s o d → get o.w ≡ get w
     unfolding unchanged_in InCluster
-    kept-in o c s (Kind k) e a = ap get (a (neither (as_shown x) (dates_in x (Kind k)) e)).state
-    kept-in o c s NoDir e a =
-        let q = neither (pick (is_host x w c) (as_parked x (slot_before w c) s) (as_shown x)) (dates_in x NoDir) e in
+    kept-in o c s (Some k) e a = ap get (a (neither (as_shown x) (dates_in x (Some k)) e)).state
+    kept-in o c s None e a =
+        let q = neither (pick (is_host x w c) (as_parked x (slot_before w c) s) (as_shown x)) (dates_in x None) e in
         either (is_host x w c)
         (λ h. ap get (a.0 h (rw h at q)).state ∙ stage _ _ _)
         (λ h. absurd (a.1 h (rw h at q)))

@@ -1,5 +1,5 @@
 -- What a taken sector changes, place by place, and that nothing else does (document 01, "Judging a sector"). o is how `classify` judged it.
-use Rattle.std.specs.Prelude.{ℕ, ◌+◌, ◌*◌, ◌<◌, max, Bool, true, false, not, ◌&&◌, ◌||◌, ◌≡◌, leb, eqb, get_or}
+use Rattle.std.specs.Prelude.{ℕ, ◌+◌, ◌*◌, ◌<◌, max, Bool, true, false, not, ◌&&◌, ◌||◌, ◌≡◌, leb, eqb, get_or, Option, Some, None}
 use Rattle.loops.specs.Loops.{pick, some}
 use Rattle.loops.specs.Rows.{rows}
 use Rattle.num.specs.Num.{wrapping_next}
@@ -9,16 +9,12 @@ use Rattle.vdisk.specs.declared.drive.Place.{Place}
 use Rattle.vdisk.specs.declared.drive.Place.TheVariants.{Boot, Fat, Root, Data, Outside}
 use Rattle.vdisk.specs.declared.owner.Own.{Own}
 use Rattle.vdisk.specs.declared.owner.Own.TheVariants.{Reserved, Fixed, Dyn, Free}
-use Rattle.vdisk.specs.declared.drive.DirKind.{DirKind}
-use Rattle.vdisk.specs.declared.drive.DirKind.TheVariants.{Kind, NoDir}
 use Rattle.records.specs.Records.{no_rec, root_rec}
 use Rattle.state.specs.State.{max_slots, pair0, st0, no_st}
 use Rattle.state.specs.Setters.{with_boot, with_fat1, with_rec, with_pair, with_st, with_session, with_last, with_n}
 use Rattle.state.specs.Pairs.{pair_of}
 use Rattle.state.specs.declared.w.Stats.{Stats}
 use Rattle.state.specs.declared.w.W.{W}
-use Rattle.state.specs.declared.pairs.PairOf.{PairOf}
-use Rattle.state.specs.declared.pairs.PairOf.TheVariants.{Value, NoPair}
 use Rattle.medium.specs.Reads.{moved_ref}
 use Rattle.clusters.specs.Clusters.{is_live}
 use Rattle.judge.specs.Classify.{SectorWrite, Outcome, owner_in}
@@ -87,16 +83,16 @@ unfoldable pub pair_set : SectorWrite → W → ℕ → ℕ → Bool
 pair_set x w s k = some (λ i. sets_pair x w s i && eqb (entry_cluster s i) k) 256 0
 
 -- it is removed where it is set to 0 and there was one
-unfoldable pub is_value : PairOf → Bool
-is_value (Value v) = true
-is_value NoPair = false
+unfoldable pub is_value : Option ℕ → Bool
+is_value (Some v) = true
+is_value None = false
 
 unfoldable pub pair_removed : SectorWrite → W → ℕ → ℕ → Bool
 pair_removed x w s k =
     some (λ i. sets_pair x w s i && eqb (entry_cluster s i) k && eqb (entry_value x.written i) 0) 256 0 && is_value (pair_of w.pair k)
 
-unfoldable pub pair_as : ℕ → PairOf
-pair_as v = pick (eqb v 0) NoPair (Value v)
+unfoldable pub pair_as : ℕ → Option ℕ
+pair_as v = pick (eqb v 0) None (Some v)
 
 pub record FatOnly (x : SectorWrite) (w : W) (s : ℕ) (o : Outcome) : Type 0 where
   -- nothing but FAT[1], pairs and staging slots
@@ -147,9 +143,9 @@ differs x = as_shown x ≡ false
 
 -- what a taken sector changes in its cluster: a host cluster's is staged, be it equal to the shown one or not, unless it is in a parked block what
 -- `staged_read` shows; other data is never taken unless it is as shown
-unfoldable pub InCluster : SectorWrite → W → ℕ → ℕ → Outcome → DirKind → Type 0
-InCluster x w c s o (Kind k) = differs x → DirOnly x w k s o
-InCluster x w c s o NoDir =
+unfoldable pub InCluster : SectorWrite → W → ℕ → ℕ → Outcome → Option ℕ → Type 0
+InCluster x w c s o (Some k) = differs x → DirOnly x w k s o
+InCluster x w c s o None =
     (is_host x w c ≡ true → as_parked x (slot_before w c) s ≡ false → StageOnly x w c s o) × (is_host x w c ≡ false → differs x → ⊥)
 
 -- what it changes by its place; none is taken outside the drive

@@ -1,10 +1,8 @@
 -- Demand 1 as a statement over `write`, the definition of a whole call. `Demand1`, at the end, says what is claimed of a sector write x and a
 -- state w; `demand1` in Theorem proves it for all of them. What a call may touch is what `write` gives: the number, the state, the table's ids
 -- and the data area.
-use Rattle.std.specs.Prelude.{ℕ, Bool, true, false, ◌&&◌, ◌||◌, List, ◌≡◌, leb, eqb, set}
+use Rattle.std.specs.Prelude.{ℕ, Bool, true, false, ◌&&◌, ◌||◌, List, ◌≡◌, leb, eqb, set, Option, Some, None}
 use Rattle.loops.specs.Loops.{pick}
-use Rattle.loops.specs.declared.Found.{Found}
-use Rattle.loops.specs.declared.Found.TheVariants.{At, Nothing}
 use Rattle.num.specs.Num.{wrapping_next}
 use Rattle.vdisk.specs.Drive.{place_of}
 use Rattle.vdisk.specs.declared.drive.Place.{Place}
@@ -44,9 +42,9 @@ sector_in (Data c s) = s
 sector_in Outside = 0
 
 -- the staging slots with cluster c's claimed: as they were where it has its own, else with the first free one set for it
-unfoldable pub claim_at : List St → ℕ → Found → List St
-claim_at ss c (At i) = set ss i (new_slot c)
-claim_at ss c Nothing = ss
+unfoldable pub claim_at : List St → ℕ → Option ℕ → List St
+claim_at ss c (Some i) = set ss i (new_slot c)
+claim_at ss c None = ss
 
 unfoldable pub claimed_slots : List St → ℕ → List St
 claimed_slots ss c = pick (is_place (slot_of ss c)) ss (claim_at ss c (free_slot ss))

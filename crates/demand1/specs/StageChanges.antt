@@ -1,8 +1,7 @@
 -- What a staged sector changes, byte by byte and bit by bit (document 01, "Judging a sector", Staging). o is how `classify` judged it.
-use Rattle.std.specs.Prelude.{ℕ, ◌+◌, ◌-◌, ◌*◌, ◌/◌, ◌%◌, ◌<◌, max, Bool, true, false, not, ◌&&◌, ◌||◌, List, ◌≡◌, leb, ltb, eqb, length, get_or}
+use Rattle.std.specs.Prelude.{ℕ, ◌+◌, ◌-◌, ◌*◌, ◌/◌, ◌%◌, ◌<◌, max, Bool, true, false, not, ◌&&◌, ◌||◌, List, ◌≡◌, leb, ltb, eqb, length, get_or, Some}
 use Rattle.loops.specs.Loops.{pick}
 use Rattle.loops.specs.Rows.{rows}
-use Rattle.loops.specs.declared.Found.TheVariants.{At}
 use Rattle.num.specs.Num.{wrapping_next}
 use Rattle.bits.specs.Bit.{bit, set_bit}
 use Rattle.sector.specs.Bytes.{zeros}
@@ -65,8 +64,8 @@ pub record SlotSet (x : SectorWrite) (c s b : ℕ) (y z : St) : Type 0 where
 -- as moved"
 pub record StageOnly (x : SectorWrite) (w : W) (c s : ℕ) (o : Outcome) : Type 0 where
   pub state : o.w ≡ with_ver (staging_state w o.w.st (hint_after x w c s)) (wrapping_next w.ver)
-  pub slots : (i : ℕ) → (slot_place w.st c ≡ At i → ⊥) → get_or o.w.st i no_st ≡ get_or w.st i no_st
-  pub slot : Sound w → (i : ℕ) → slot_place w.st c ≡ At i → SlotSet x c s (block_to x w c s) (slot_before w c) (get_or o.w.st i no_st)
+  pub slots : (i : ℕ) → (slot_place w.st c ≡ Some i → ⊥) → get_or o.w.st i no_st ≡ get_or w.st i no_st
+  pub slot : Sound w → (i : ℕ) → slot_place w.st c ≡ Some i → SlotSet x c s (block_to x w c s) (slot_before w c) (get_or o.w.st i no_st)
   pub ids : o.ids
       ≡ rows (λ j id. pick (not (zeros x.written) && turned id && refers_to x.written (get_or x.starts j 0) (get_or x.sizes j 0)) (set_bit id 15) id) x.ids
   -- an all-zero sector of a block not held leaves the data area; any other is put into its block, and every other byte stays

@@ -24,8 +24,8 @@ use Rattle.medium.specs.Reads.{found_answer, staged_answer, staged_bytes}
 use Rattle.chains.specs.Chains.{complete_of}
 use Rattle.sessions.specs.Sessions.{set_read_only, mode_reset, report_gone, start}
 use Rattle.body.specs.Body.{body_of}
-use Rattle.session_calls.specs.Calls.{FindsHanded, FindsFile}
-use Rattle.session_calls.specs.declared.HandedAnswer.{HandedAnswer}
+use Rattle.sessions.specs.Calls.{FindsHanded, FindsFile}
+use Rattle.sessions.specs.Calls.{HandedAnswer}
 use Rattle.state_calls.specs.Answers.{own_answer, files_owner}
 use Rattle.demand1_sessions.specs.Demand1.{Reports, Starts, Reads, TableReads, Demand1Calls}
 use Rattle.demand1_sessions.proofs.EndLaws.{all-ends, release-ends, reset-ends, poll-ends}

@@ -22,8 +22,8 @@ use Rattle.sessions.specs.Poll.{poll_call}
 use Rattle.sessions.specs.Sessions.{set_read_only, mode_reset, bus_reset_call, Reported, report_gone, Started, start}
 use Rattle.body.specs.Body.{body_of}
 use Rattle.file_table.specs.declared.VF.{VF}
-use Rattle.session_calls.specs.Calls.{FindsFile}
-use Rattle.session_calls.specs.declared.HandedAnswer.{HandedAnswer}
+use Rattle.sessions.specs.Calls.{FindsFile}
+use Rattle.sessions.specs.Calls.{HandedAnswer}
 use Rattle.state_calls.specs.Answers.{files_owner}
 use Rattle.demand1_sessions.specs.Ends.{MayEnd, clock_set, held_end_due, tick_ends}
 

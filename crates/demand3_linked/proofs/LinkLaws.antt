@@ -12,8 +12,8 @@ use Rattle.write.specs.Write.{Written, write as written}
 use Rattle.release.specs.Release.{Lending, Ended, release_all_call, release_call}
 use Rattle.sessions.specs.Poll.{poll_call}
 use Rattle.sessions.specs.Sessions.{Reported, Started, bus_reset_call, mode_reset, set_read_only as read_only_set, report_gone, start}
-use Rattle.session_calls.specs.Calls.{files_lending, end_answer, EndsBy}
-use Rattle.session_calls.specs.declared.EndAnswer.{EndAnswer}
+use Rattle.release.specs.Release.{files_lending, end_answer, EndsBy}
+use Rattle.release.specs.Release.{EndAnswer}
 use Rattle.table_calls.specs.Calls.{files_written}
 use Rattle.demand3.specs.Step.{Session, Outcome, Medium, Sector, Call, write, poll, release, release_all, bus_reset, reset_mode, set_read_only, report, refused_start, sector_of, lent, of_ended, step}
 use Rattle.demand3.specs.History.{History, event, next, run}

@@ -1,21 +1,17 @@
 -- Every call leaves as many ids as it was lent.
-use Rattle.std.specs.Prelude.{ℕ, Bool, true, false, not, ◌&&◌, ◌||◌, ◌≡◌, eqb, ltb, leb, get_or, set}
+use Rattle.std.specs.Prelude.{ℕ, Bool, true, false, not, ◌&&◌, ◌||◌, ◌≡◌, eqb, ltb, leb, get_or, set, Option, Some, None}
 use mathlib.Core.List.{List}
 use Rattle.std.proofs.Math.Path.{refl}
 use Rattle.std.proofs.Common.{◌∙◌, length-set}
 use Rattle.std.proofs.Math.ListN.{length}
 use Rattle.loops.specs.Choices.{pick-has}
 use Rattle.loops.specs.Rows.{rows, rows-length}
-use Rattle.loops.specs.declared.Found.{Found}
-use Rattle.loops.specs.declared.Found.TheVariants.{At, Nothing}
 use Rattle.bits.specs.Bit.{set_bit}
 use Rattle.sector.specs.Bytes.{same, zeros}
 use Rattle.vdisk.specs.Drive.{place_of, dir_kind_of}
 use Rattle.vdisk.specs.Ids.{handed}
 use Rattle.vdisk.specs.declared.drive.Place.{Place}
 use Rattle.vdisk.specs.declared.drive.Place.TheVariants.{Boot, Fat, Root, Data, Outside}
-use Rattle.vdisk.specs.declared.drive.DirKind.{DirKind}
-use Rattle.vdisk.specs.declared.drive.DirKind.TheVariants.{Kind, NoDir}
 use Rattle.file_table.specs.Table.{max_files}
 use Rattle.state.specs.State.{no_st}
 use Rattle.state.specs.Setters.{with_boot, with_end_at, with_hint, with_st}
@@ -70,15 +66,15 @@ module _ (x : StageWrite) where
   slot-rows w i y =
       pick-has Rows (is_parked y x.s && same (sector_of x.fat x.area y x.s) x.written) (unchanged x w) (on_medium x (start_staging w) i y) refl (medium-rows (start_staging w) i y)
 
-  claimed-rows : (w : W) (f : Found) → Rows (claimed x w f)
+  claimed-rows : (w : W) (f : Option ℕ) → Rows (claimed x w f)
   unfolding claimed
-  claimed-rows w (At i) = slot-rows (with_st w (set w.st i (slot_for x.c))) i (slot_for x.c)
-  claimed-rows w Nothing = refl
+  claimed-rows w (Some i) = slot-rows (with_st w (set w.st i (slot_for x.c))) i (slot_for x.c)
+  claimed-rows w None = refl
 
-  found-rows : (w : W) (f : Found) → Rows (in_found x w f)
+  found-rows : (w : W) (f : Option ℕ) → Rows (in_found x w f)
   unfolding in_found
-  found-rows w (At i) = slot-rows w i (get_or w.st i no_st)
-  found-rows w Nothing = claimed-rows w (free_slot w.st)
+  found-rows w (Some i) = slot-rows w i (get_or w.st i no_st)
+  found-rows w None = claimed-rows w (free_slot w.st)
 
   stage-rows : (w : W) → Rows (stage x w)
   unfolding stage
@@ -112,10 +108,10 @@ module _ (x : SectorWrite) (w : W) where
   boot-rows =
       pick-has WholeIn (boot_passes x.shown x.written) (record { number = 0; changed = true; w = with_boot w (get_or x.written 0x25 0); ids = x.ids; area = x.area }) (refused x w 3) refl refl
 
-  cluster-rows : (c s : ℕ) (d : DirKind) → WholeIn (cluster x w c s d)
+  cluster-rows : (c s : ℕ) (d : Option ℕ) → WholeIn (cluster x w c s d)
   unfolding cluster other_data
-  cluster-rows c s (Kind k) = unless-rows (dir x w k s) (dir-rows k s)
-  cluster-rows c s NoDir =
+  cluster-rows c s (Some k) = unless-rows (dir x w k s) (dir-rows k s)
+  cluster-rows c s None =
       pick-has WholeIn (host_cluster x.ids x.starts x.sizes w.first w.pair c) (outcome_of (stage (stage_of x c s) w)) (unless_shown x w (other_data x w c))
       (stage-rows (stage_of x c s) w) (unless-rows (other_data x w c) refl)
 

@@ -14,8 +14,8 @@ use Rattle.files.specs.FilesLaws.{same-ids}
 use Rattle.state.specs.State.{initial}
 use Rattle.state.specs.declared.w.W.{W}
 use Rattle.sessions.specs.Sessions.{start}
-use Rattle.session_calls.specs.Calls.{FindsHanded, FindsFile}
-use Rattle.session_calls.specs.declared.HandedAnswer.{HandedAnswer}
+use Rattle.sessions.specs.Calls.{FindsHanded, FindsFile}
+use Rattle.sessions.specs.Calls.{HandedAnswer}
 use Rattle.demand3.specs.Step.{Session, Call, id_of as id_in}
 use Rattle.demand3.specs.History.{begun, Demand3}
 use Rattle.demand3.proofs.Theorem.{demand-3}

@@ -8,9 +8,10 @@ use Rattle.state.specs.declared.w.W.{W}
 use Rattle.release.specs.Release.{release_call, release_all_call}
 use Rattle.sessions.specs.Poll.{poll_call}
 use Rattle.sessions.specs.Sessions.{bus_reset_call}
-use Rattle.session_calls.specs.Calls.{EndsBy, ReportsBy, StartsBy, AsksMode, SetsMode}
-use Rattle.session_calls.specs.declared.EndAnswer.{EndAnswer}
-use Rattle.session_calls.specs.declared.HandedAnswer.{HandedAnswer}
+use Rattle.release.specs.Release.{EndsBy}
+use Rattle.sessions.specs.Calls.{ReportsBy, StartsBy, AsksMode, SetsMode}
+use Rattle.release.specs.Release.{EndAnswer}
+use Rattle.sessions.specs.Calls.{HandedAnswer}
 use Rattle.table_calls.specs.Calls.{WritesBy}
 use Rattle.demand3.specs.Step.{Session, Outcome, Call, write, poll, release, release_all, bus_reset, reset_mode, set_read_only, report, refused_start}
 use Rattle.demand3.specs.History.{Event, History, run, begun, lately, turned_in, zeroed_in, named_in, gone_in}

@@ -1,5 +1,5 @@
 -- What a directory sector does to a row's marks, and that what every call keeps is kept.
-use Rattle.std.specs.Prelude.{ℕ, ◌+◌, ◌*◌, ◌/◌, ◌%◌, ◌<◌, Bool, true, not, ◌&&◌, ◌||◌, refl}
+use Rattle.std.specs.Prelude.{ℕ, ◌+◌, ◌*◌, ◌/◌, ◌%◌, ◌<◌, Bool, true, not, ◌&&◌, ◌||◌, refl, Option, Some, None}
 use Rattle.std.proofs.Math.Bool.{false}
 use Rattle.std.proofs.lemmas.Bool.{false≢true}
 use mathlib.Core.List.{List}
@@ -15,13 +15,10 @@ use Rattle.loops.specs.Facts.{all-at, some-in, some-at}
 use Rattle.loops.specs.Found.{find-lt, find-is}
 use Rattle.loops.specs.Marks.{is_at, picked_by}
 use Rattle.loops.specs.Rows.{rows as rows_of, rows-at}
-use Rattle.loops.specs.declared.Found.{Found}
-use Rattle.loops.specs.declared.Found.TheVariants.{At, Nothing}
 use Rattle.bits.specs.Bit.{set_bit}
 use Rattle.bits.specs.Laws.{bit-set-same, bit-set-above}
 use Rattle.vdisk.specs.Ids.{turned, freed, gone, moved, id_dir_of}
 use Rattle.vdisk.specs.IdLaws.{set-low, id_dir-low}
-use Rattle.vdisk.specs.declared.drive.DirKind.TheVariants.{Kind}
 use Rattle.file_table.specs.Table.{Table, same_place}
 use Rattle.file_table.specs.Accepted.{Accepted, one-place}
 use Rattle.slots.specs.Slots.{first_byte, is_date, date_at, dates_only, turn_at}
@@ -47,10 +44,10 @@ turn-dates g d at e q =
     (eqb-true (first_byte g at) (first_byte d at) (rw z at p) ∙ eqb-true (first_byte d at) 0xE5 (and-1 a b e1)))
     (λ p. false≢true p)
 
-found-is : {R : Type 0} (f : Found) → is_found f ≡ true → ((j : ℕ) → f ≡ At j → R) → R
+found-is : {R : Type 0} (f : Option ℕ) → is_found f ≡ true → ((j : ℕ) → f ≡ Some j → R) → R
 unfolding is_found
-found-is (At j) e g = g j refl
-found-is Nothing e g = absurd (false≢true e)
+found-is (Some j) e g = g j refl
+found-is None e g = absurd (false≢true e)
 
 -- slot i of the sector turns row j
 module _ (x : DirWrite) where
@@ -60,7 +57,7 @@ module _ (x : DirWrite) where
     dir : id_dir_of (get_or x.ids j 0) ≡ x.k
     slot : get_or x.slots j 0 ≡ x.s * 16 + i
 
-  turned_by-is : (i j : ℕ) → turned_by x i ≡ At j → Turns i j
+  turned_by-is : (i j : ℕ) → turned_by x i ≡ Some j → Turns i j
   unfolding turned_by row_of file_at
   turned_by-is i j e =
       let l = ltb x.k 3 in
@@ -68,7 +65,7 @@ module _ (x : DirWrite) where
       let n = x.s * 16 + i in
       let p = eqb (id_dir_of (get_or x.ids j 0)) x.k in
       let q = eqb (get_or x.slots j 0) n in
-      picked (l && u) (row_of x n) Nothing (At j) e
+      picked (l && u) (row_of x n) None (Some j) e
       (λ b f.
       let c = and-0 (p && q) (not (turned (get_or x.ids j 0))) (find-is (file_at x n) (length x.ids) j f) in
       record {
@@ -77,7 +74,7 @@ module _ (x : DirWrite) where
         dir = eqb-true (id_dir_of (get_or x.ids j 0)) x.k (and-0 p q c);
         slot = eqb-true (get_or x.slots j 0) n (and-1 p q c);
       })
-      (λ b (f : Nothing ≡ At j). let z : ◌≡◌ {A = ℕ} 0 1 = cc in absurd (omega arith))
+      (λ b (f : None ≡ Some j). let z : ◌≡◌ {A = ℕ} 0 1 = cc in absurd (omega arith))
 
 module _ (t : Table) (a : Accepted t) (ids : List ℕ) (w : W) (k : Kept t ids w) (d s : ℕ) (shown written fat area : List ℕ) where
   abbrev x : DirWrite
@@ -89,7 +86,7 @@ module _ (t : Table) (a : Accepted t) (ids : List ℕ) (w : W) (k : Kept t ids w
 
   -- the sector shows a turn of row j's slot
   abbrev seen : ℕ → Bool
-  seen j = turns_in t j s shown written (Kind d)
+  seen j = turns_in t j s shown written (Some d)
 
   -- no other row has that directory and slot
   turned-one : (i j j' : ℕ) → j < length t.ids → dir_in t j ≡ d → slot_in t j ≡ s * 16 + i → Turns x i j' → j' ≡ j
@@ -115,7 +112,7 @@ module _ (t : Table) (a : Accepted t) (ids : List ℕ) (w : W) (k : Kept t ids w
       (λ b. absurd (turn-dates shown written (i * 32) (and-1 y u yu) b))
       (λ b. found-is (turned_by x i) b
       (λ j' f. let o = turned-one i j j' l p q (turned_by-is x i j' f) in
-      some-at (λ i'. is_at j (turned_by x i')) 16 0 i (omega arith) (omega arith) (is_at-of j (turned_by x i) (f ∙ ap At o))))
+      some-at (λ i'. is_at j (turned_by x i')) 16 0 i (omega arith) (omega arith) (is_at-of j (turned_by x i) (f ∙ ap Some o))))
 
   row-seen : (j : ℕ) → j < length t.ids → turns_row x j ≡ true → seen j ≡ true
   unfolding turns_row picked_by turns_in turned_in

@@ -1,12 +1,10 @@
 -- Laws of what a call does to marks.
-use Rattle.std.specs.Prelude.{ℕ, ◌<◌, Bool, true, false, ◌||◌, List, ◌≡◌, refl, eqb}
+use Rattle.std.specs.Prelude.{ℕ, ◌<◌, Bool, true, false, ◌||◌, List, ◌≡◌, refl, eqb, Option, Some, None}
 use Rattle.std.proofs.lemmas.Bool.{false≢true}
 use Rattle.std.proofs.Common.{ap, eqb-true, eq-eqb}
 use Rattle.loops.specs.Loops.{pick}
 use Rattle.loops.specs.Choices.{and-no}
 use Rattle.loops.specs.Marks.{is_at}
-use Rattle.loops.specs.declared.Found.{Found}
-use Rattle.loops.specs.declared.Found.TheVariants.{At, Nothing}
 use Rattle.bits.specs.Bit.{bit, set_bit}
 use Rattle.bits.specs.Laws.{bit-set-same, bit-set-below, bit-set-above}
 use Rattle.marks.specs.Does.{Does}
@@ -39,11 +37,11 @@ upper-bit true id k i h = bit-set-above id k i h
 upper-bit false id k i h = refl
 
 -- a place picks row j exactly where it gives j
-pub is_at-is : (j : ℕ) (f : Found) → is_at j f ≡ true → f ≡ At j
+pub is_at-is : (j : ℕ) (f : Option ℕ) → is_at j f ≡ true → f ≡ Some j
 unfolding is_at
-is_at-is j (At k) e = ap At (eqb-true k j e)
-is_at-is j Nothing e = absurd (false≢true e)
+is_at-is j (Some k) e = ap Some (eqb-true k j e)
+is_at-is j None e = absurd (false≢true e)
 
-pub is_at-of : (j : ℕ) (f : Found) → f ≡ At j → is_at j f ≡ true
+pub is_at-of : (j : ℕ) (f : Option ℕ) → f ≡ Some j → is_at j f ≡ true
 unfolding is_at
 is_at-of j f e = rw e (eq-eqb j j refl)

@@ -1,5 +1,5 @@
 -- What a FAT sector does to a row's marks, and that what every call keeps is kept.
-use Rattle.std.specs.Prelude.{ℕ, ◌+◌, ◌*◌, ◌%◌, ◌<◌, ◌&&◌, ◌||◌, ltb, length}
+use Rattle.std.specs.Prelude.{ℕ, ◌+◌, ◌*◌, ◌%◌, ◌<◌, ◌&&◌, ◌||◌, ltb, length, Some, None}
 use Rattle.std.proofs.Math.Bool.{true, false, not}
 use Rattle.std.proofs.Common.{true≢false, ◌∙◌, arith}
 use Rattle.std.proofs.lemmas.Bool.{false≢true}
@@ -13,7 +13,6 @@ use Rattle.loops.specs.Choices.{either, pick-by, pick-has, picked, and-of, and-0
 use Rattle.loops.specs.Facts.{all-at, all-not, some-in, some-at, first-at, first-below}
 use Rattle.loops.specs.Marks.{is_at, picked_by}
 use Rattle.loops.specs.Rows.{rows as rows_of, rows-at}
-use Rattle.loops.specs.declared.Found.TheVariants.{At, Nothing}
 use Rattle.bits.specs.Bit.{set_bit}
 use Rattle.sector.specs.Bytes.{word}
 use Rattle.vdisk.specs.Ids.{turned, freed, gone, moved}
@@ -58,24 +57,24 @@ module _ (x : FatWrite) where
     pub owner : owner_at x i ≡ Dyn j
     pub live : is_live x.ids x.pairs j (cluster_at x i) ≡ true
 
-  freed_own-is : {R : Type 0} (i j : ℕ) (o : Own) → freed_own x i o ≡ At j → (o ≡ Dyn j → is_live x.ids x.pairs j (cluster_at x i) ≡ true → R) → R
+  freed_own-is : {R : Type 0} (i j : ℕ) (o : Own) → freed_own x i o ≡ Some j → (o ≡ Dyn j → is_live x.ids x.pairs j (cluster_at x i) ≡ true → R) → R
   unfolding freed_own
-  freed_own-is i j Reserved = λ (e : Nothing ≡ At j) f. let z : ◌≡◌ {A = ℕ} 0 1 = cc in absurd (omega arith)
-  freed_own-is i j Fixed = λ (e : Nothing ≡ At j) f. let z : ◌≡◌ {A = ℕ} 0 1 = cc in absurd (omega arith)
+  freed_own-is i j Reserved = λ (e : None ≡ Some j) f. let z : ◌≡◌ {A = ℕ} 0 1 = cc in absurd (omega arith)
+  freed_own-is i j Fixed = λ (e : None ≡ Some j) f. let z : ◌≡◌ {A = ℕ} 0 1 = cc in absurd (omega arith)
   freed_own-is i j (Dyn k) =
-      λ e f. picked (is_live x.ids x.pairs k (cluster_at x i)) (At k) Nothing (At j) e
-      (λ p (q : At k ≡ At j). let z : k ≡ j = cc in f (ap Dyn z) (rw z at p))
-      (λ p (q : Nothing ≡ At j). let z : ◌≡◌ {A = ℕ} 0 1 = cc in absurd (omega arith))
-  freed_own-is i j Free = λ (e : Nothing ≡ At j) f. let z : ◌≡◌ {A = ℕ} 0 1 = cc in absurd (omega arith)
+      λ e f. picked (is_live x.ids x.pairs k (cluster_at x i)) (Some k) None (Some j) e
+      (λ p (q : Some k ≡ Some j). let z : k ≡ j = cc in f (ap Dyn z) (rw z at p))
+      (λ p (q : None ≡ Some j). let z : ◌≡◌ {A = ℕ} 0 1 = cc in absurd (omega arith))
+  freed_own-is i j Free = λ (e : None ≡ Some j) f. let z : ◌≡◌ {A = ℕ} 0 1 = cc in absurd (omega arith)
 
-  freed_by-is : (i j : ℕ) → freed_by x i ≡ At j → Frees i j
+  freed_by-is : (i j : ℕ) → freed_by x i ≡ Some j → Frees i j
   unfolding freed_by
   freed_by-is i j e =
-      picked (changed_at x i) (freed_own x i (owner_at x i)) Nothing (At j) e
+      picked (changed_at x i) (freed_own x i (owner_at x i)) None (Some j) e
       (λ p q. freed_own-is i j (owner_at x i) q (λ o v. record { changed = p; owner = o; live = v }))
-      (λ p (q : Nothing ≡ At j). let z : ◌≡◌ {A = ℕ} 0 1 = cc in absurd (omega arith))
+      (λ p (q : None ≡ Some j). let z : ◌≡◌ {A = ℕ} 0 1 = cc in absurd (omega arith))
 
-  freed_by-of : (i j : ℕ) → Frees i j → freed_by x i ≡ At j
+  freed_by-of : (i j : ℕ) → Frees i j → freed_by x i ≡ Some j
   unfolding freed_by freed_own
   freed_by-of i j f = rw (f.changed, f.owner, f.live)
 

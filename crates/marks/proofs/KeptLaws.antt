@@ -1,13 +1,11 @@
 -- Laws of what every call keeps.
-use Rattle.std.specs.Prelude.{ℕ, zero, suc, ◌+◌, ◌%◌, ◌<◌, ◌≤◌, Bool, false, ◌&&◌, List, ◌≡◌, refl, length, get_or, set, replicate}
+use Rattle.std.specs.Prelude.{ℕ, zero, suc, ◌+◌, ◌%◌, ◌<◌, ◌≤◌, Bool, false, ◌&&◌, List, ◌≡◌, refl, length, get_or, set, replicate, Option, Some, None}
 use Rattle.std.proofs.Math.Bool.{true, not}
 use Rattle.std.proofs.Common.{true≢false, ◌∙◌, ap, arith}
 use Rattle.std.proofs.lemmas.Bool.{not-true}
 use Rattle.loops.specs.Loops.{fold}
 use Rattle.loops.specs.Keyed.{set-has}
 use Rattle.loops.specs.Rows.{rows as rows_of, rows-at, rows-length}
-use Rattle.loops.specs.declared.Found.{Found}
-use Rattle.loops.specs.declared.Found.TheVariants.{At, Nothing}
 use Rattle.vdisk.specs.Ids.{freed}
 use Rattle.vdisk.specs.Owner.{owner_of}
 use Rattle.vdisk.specs.OwnerLaws.{owner-is}
@@ -59,11 +57,11 @@ module _ (t : Table) (a : Accepted t) (ids : List ℕ) (w : W) (k : Kept t ids w
       }
 
 -- a file's cluster that isn't live: the file is marked freed
-not-live : {R : Type 0} (b : Bool) (f : Found) → (not b && is_nothing f) ≡ false → (b ≡ true → R) → ((i : ℕ) → f ≡ At i → R) → R
+not-live : {R : Type 0} (b : Bool) (f : Option ℕ) → (not b && is_nothing f) ≡ false → (b ≡ true → R) → ((i : ℕ) → f ≡ Some i → R) → R
 unfolding is_nothing
 not-live true f e p q = p refl
-not-live false (At i) e p q = q i refl
-not-live false Nothing e p q = absurd (true≢false e)
+not-live false (Some i) e p q = q i refl
+not-live false None e p q = absurd (true≢false e)
 
 module _ (t : Table) (ids : List ℕ) (w : W) (k : Kept t ids w) where
   pub dead-freed : (j c : ℕ) → owner_of t.starts t.sizes t.first c ≡ Dyn j → is_live ids w.pair j c ≡ false → freed (get_or ids j 0) ≡ true

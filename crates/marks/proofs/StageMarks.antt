@@ -1,5 +1,5 @@
 -- What a staged sector does to a row's marks, and that what every call keeps is kept.
-use Rattle.std.specs.Prelude.{ℕ, ◌/◌, ◌%◌, ◌<◌, Bool, true, ◌&&◌, ◌||◌, ◌≡◌, eqb, length, get_or, set}
+use Rattle.std.specs.Prelude.{ℕ, ◌/◌, ◌%◌, ◌<◌, Bool, true, ◌&&◌, ◌||◌, ◌≡◌, eqb, length, get_or, set, Option, Some, None}
 use Rattle.std.proofs.Math.Bool.{false, not}
 use mathlib.Core.List.{List}
 use Rattle.std.proofs.Math.Path.{refl, ap}
@@ -9,8 +9,6 @@ use Rattle.loops.specs.Loops.{pick}
 use Rattle.loops.specs.Choices.{pick-by, pick-has, and-no, and-1}
 use Rattle.loops.specs.Keyed.{set-has}
 use Rattle.loops.specs.Rows.{rows as rows_of, rows-at}
-use Rattle.loops.specs.declared.Found.{Found}
-use Rattle.loops.specs.declared.Found.TheVariants.{At, Nothing}
 use Rattle.bits.specs.Bit.{bit, set_bit}
 use Rattle.sector.specs.Bytes.{same, zeros}
 use Rattle.vdisk.specs.Ids.{turned, freed, gone, moved}
@@ -111,16 +109,16 @@ module _ (t : Table) (a : Accepted t) (ids : List ℕ) (w : W) (k : Kept t ids w
         (and-no (turned id) (not b && data_names t j written) (rw q)))
         (λ q. rw q (medium-does (start_staging w') i y)))
 
-    claimed-does : (f : Found) → Moves (data_names t j written) (claimed x w f)
+    claimed-does : (f : Option ℕ) → Moves (data_names t j written) (claimed x w f)
     unfolding claimed
-    claimed-does (At i) =
+    claimed-does (Some i) =
         slot-does (with_st w (set w.st i (slot_for c))) i (slot_for c) false (rw (fresh-slot c s))
-    claimed-does Nothing = does-refused j 16 ids false false (turned id && data_names t j written) refl
+    claimed-does None = does-refused j 16 ids false false (turned id && data_names t j written) refl
 
-    found-does : (f : Found) → Moves (not (parked_same fat area w.st s written f) && data_names t j written) (in_found x w f)
+    found-does : (f : Option ℕ) → Moves (not (parked_same fat area w.st s written f) && data_names t j written) (in_found x w f)
     unfolding in_found parked_same
-    found-does (At i) = slot-does w i (get_or w.st i no_st) (parked_same fat area w.st s written (At i)) refl
-    found-does Nothing = claimed-does (free_slot w.st)
+    found-does (Some i) = slot-does w i (get_or w.st i no_st) (parked_same fat area w.st s written (Some i)) refl
+    found-does None = claimed-does (free_slot w.st)
 
     pub stage-does : Moves (not (parked_same fat area w.st s written (slot_of w.st c)) && data_names t j written) (stage x w)
     unfolding stage
@@ -197,15 +195,15 @@ module _ (t : Table) (a : Accepted t) (ids : List ℕ) (w : W) (k : Kept t ids w
         (medium-kept (start_staging w') (start-kept w' h))
 
   module _ (free : FreedAt t ids c) where
-    claimed-kept : (f : Found) → KeptIn (claimed x w f)
+    claimed-kept : (f : Option ℕ) → KeptIn (claimed x w f)
     unfolding claimed
-    claimed-kept (At i) = in_slot-kept i (slot_for c) free (with_st w (set w.st i (slot_for c))) (set-kept w i (slot_for c) k free)
-    claimed-kept Nothing = k
+    claimed-kept (Some i) = in_slot-kept i (slot_for c) free (with_st w (set w.st i (slot_for c))) (set-kept w i (slot_for c) k free)
+    claimed-kept None = k
 
-    found-kept : (f : Found) → KeptIn (in_found x w f)
+    found-kept : (f : Option ℕ) → KeptIn (in_found x w f)
     unfolding in_found
-    found-kept (At i) = in_slot-kept i (get_or w.st i no_st) (k.slots i) w k
-    found-kept Nothing = claimed-kept (free_slot w.st)
+    found-kept (Some i) = in_slot-kept i (get_or w.st i no_st) (k.slots i) w k
+    found-kept None = claimed-kept (free_slot w.st)
 
     pub stage-kept : KeptIn (stage x w)
     unfolding stage

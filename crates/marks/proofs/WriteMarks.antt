@@ -1,5 +1,5 @@
 -- What one write does to the four marks of a row, and that what every call keeps is kept.
-use Rattle.std.specs.Prelude.{ℕ, ◌+◌, ◌*◌, ◌/◌, ◌%◌, ◌<◌, Bool, true, ◌&&◌, ◌||◌, List, ◌≡◌, leb, length, get_or}
+use Rattle.std.specs.Prelude.{ℕ, ◌+◌, ◌*◌, ◌/◌, ◌%◌, ◌<◌, Bool, true, ◌&&◌, ◌||◌, List, ◌≡◌, leb, length, get_or, Option, Some, None}
 use Rattle.std.proofs.Math.Bool.{false, not}
 use Rattle.std.proofs.Math.Path.{refl, sym}
 use Rattle.std.proofs.Common.{◌∙◌}
@@ -8,16 +8,12 @@ use borrow.Author.Tests.{eqb-true, not-false}
 use Rattle.loops.specs.Loops.{all, fold}
 use Rattle.loops.specs.Choices.{pick-by, pick-has, and-no, and-0, and-1}
 use Rattle.loops.specs.Facts.{fold-keeps}
-use Rattle.loops.specs.declared.Found.{Found}
-use Rattle.loops.specs.declared.Found.TheVariants.{At, Nothing}
 use Rattle.sector.specs.Bytes.{same}
 use Rattle.sector.specs.Laws.{same-is}
 use Rattle.vdisk.specs.Ids.{turned}
 use Rattle.vdisk.specs.Drive.{place_of, dir_kind_of}
 use Rattle.vdisk.specs.declared.drive.Place.{Place}
 use Rattle.vdisk.specs.declared.drive.Place.TheVariants.{Boot, Fat, Root, Data, Outside}
-use Rattle.vdisk.specs.declared.drive.DirKind.{DirKind}
-use Rattle.vdisk.specs.declared.drive.DirKind.TheVariants.{Kind, NoDir}
 use Rattle.vdisk.specs.declared.owner.Own.{Own}
 use Rattle.vdisk.specs.declared.owner.Own.TheVariants.{Reserved, Fixed, Dyn, Free}
 use Rattle.file_table.specs.Table.{Table, accepts}
@@ -111,21 +107,21 @@ module _ (t : Table) (a : Accepted t) (x : SectorWrite) (on : OnTable t x) (w : 
     no-moves : (tu st : Bool) → tu ≡ false → st ≡ false → moves_in tu st ≡ false
     no-moves tu st p q = rw (p, q) (and-no (turned id) false refl)
 
-    turns-same : (s : ℕ) (d : DirKind) → x.shown ≡ x.written → turns_in t j s x.shown x.written d ≡ false
+    turns-same : (s : ℕ) (d : Option ℕ) → x.shown ≡ x.written → turns_in t j s x.shown x.written d ≡ false
     unfolding turns_in
-    turns-same s (Kind n) e = rw e (and-no (eqb (dir_in t j) n) (turned_in t j s x.written x.written) (turned-same t j s x.written))
-    turns-same s NoDir e = refl
+    turns-same s (Some n) e = rw e (and-no (eqb (dir_in t j) n) (turned_in t j s x.written x.written) (turned-same t j s x.written))
+    turns-same s None e = refl
 
-    cluster-does : (c s : ℕ) (d : DirKind)
+    cluster-does : (c s : ℕ) (d : Option ℕ)
         → Marked (turns_in t j s x.shown x.written d) false (moves_in (turns_in t j s x.shown x.written d) (stages_in x w c s d)) (cluster x w c s d)
     unfolding cluster turns_in stages_in dir other_data
-    cluster-does c s (Kind n) =
-        let tu = turns_in t j s x.shown x.written (Kind n) in
-        unless-does tu false (moves_in tu false) (dir x w n s) (turns-same s (Kind n)) (λ e. refl) (λ e. no-moves tu false (turns-same s (Kind n) e) refl)
+    cluster-does c s (Some n) =
+        let tu = turns_in t j s x.shown x.written (Some n) in
+        unless-does tu false (moves_in tu false) (dir x w n s) (turns-same s (Some n)) (λ e. refl) (λ e. no-moves tu false (turns-same s (Some n) e) refl)
         (rw (on.slots, on.starts, on.sizes)
         (does-as j _ x.ids _ tu tu false false (moves_in tu false) (tu && names) refl refl (or-none (tu && names) (turned id && false) (and-no (turned id) false refl))
         (dir-does t a x.ids w k n s x.shown x.written x.fat x.area j l)))
-    cluster-does c s NoDir =
+    cluster-does c s None =
         let h = host_cluster x.ids x.starts x.sizes w.first w.pair c in
         let p = not (parked_same x.fat x.area w.st s x.written (slot_of w.st c)) in
         pick-by (Marked false false (turned id && ((h && p) && data_names t j x.written))) h (outcome_of (stage (stage_of x c s) w)) (unless_shown x w (other_data x w c))
@@ -183,10 +179,10 @@ module _ (t : Table) (a : Accepted t) (x : SectorWrite) (on : OnTable t x) (w : 
   unless-kept o h = pick-has KeptIn (same x.shown x.written) (record { number = 0; changed = false; w = w; ids = x.ids; area = x.area }) o k h
 
   -- records touch none of it
-  put-kept : (w' : W) (r : Rec) (f : Found) → Kept t x.ids w' → Kept t x.ids (put_at w' r f)
+  put-kept : (w' : W) (r : Rec) (f : Option ℕ) → Kept t x.ids w' → Kept t x.ids (put_at w' r f)
   unfolding put_at with_rec
-  put-kept w' r (At n) h = kept-as t x.ids w' (put_at w' r (At n)) h refl refl refl
-  put-kept w' r Nothing h = h
+  put-kept w' r (Some n) h = kept-as t x.ids w' (put_at w' r (Some n)) h refl refl refl
+  put-kept w' r None h = h
 
   root-kept : (s : ℕ) → Kept t x.ids (root_state (root_of x w s) w)
   unfolding root_state keep_slot
@@ -203,11 +199,11 @@ module _ (t : Table) (a : Accepted t) (x : SectorWrite) (on : OnTable t x) (w : 
       pick-has KeptIn (boot_passes x.shown x.written) (record { number = 0; changed = true; w = o; ids = x.ids; area = x.area }) (refused x w 3)
       (kept-as t x.ids w o k refl refl refl) k
 
-  cluster-kept : (c s : ℕ) (d : DirKind) → KeptIn (cluster x w c s d)
+  cluster-kept : (c s : ℕ) (d : Option ℕ) → KeptIn (cluster x w c s d)
   unfolding cluster dir other_data
-  cluster-kept c s (Kind n) =
+  cluster-kept c s (Some n) =
       unless-kept (dir x w n s) (rw (on.slots, on.starts, on.sizes) (dir-kept t a x.ids w k n s x.shown x.written x.fat x.area))
-  cluster-kept c s NoDir =
+  cluster-kept c s None =
       let h = host_cluster x.ids x.starts x.sizes w.first w.pair c in
       pick-by KeptIn h (outcome_of (stage (stage_of x c s) w)) (unless_shown x w (other_data x w c))
       (λ e. rw (on.starts, on.sizes)

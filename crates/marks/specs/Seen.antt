@@ -1,16 +1,12 @@
 -- What a written sector holds of a file (document 01, the sentences on demand 3). Turned and zeroed are read off the shown and written sector
 -- alone, never off a mark or the state.
-use Rattle.std.specs.Prelude.{ℕ, ◌+◌, ◌*◌, ◌/◌, ◌%◌, Bool, false, not, ◌&&◌, ◌||◌, List, eqb, get_or}
+use Rattle.std.specs.Prelude.{ℕ, ◌+◌, ◌*◌, ◌/◌, ◌%◌, Bool, false, not, ◌&&◌, ◌||◌, List, eqb, get_or, Option, Some, None}
 use Rattle.loops.specs.Loops.{all}
-use Rattle.loops.specs.declared.Found.{Found}
-use Rattle.loops.specs.declared.Found.TheVariants.{At, Nothing}
 use Rattle.sector.specs.Bytes.{word, same, zeros}
 use Rattle.vdisk.specs.Drive.{place_of, dir_kind_of}
 use Rattle.vdisk.specs.Ids.{id_dir_of}
 use Rattle.vdisk.specs.declared.drive.Place.{Place}
 use Rattle.vdisk.specs.declared.drive.Place.TheVariants.{Boot, Fat, Root, Data, Outside}
-use Rattle.vdisk.specs.declared.drive.DirKind.{DirKind}
-use Rattle.vdisk.specs.declared.drive.DirKind.TheVariants.{Kind, NoDir}
 use Rattle.file_table.specs.Table.{Table, in_file}
 use Rattle.slots.specs.Slots.{turn_at, refers_to}
 use Rattle.state.specs.State.{no_st}
@@ -39,9 +35,9 @@ size_in t j = get_or t.sizes j 0
 unfoldable pub turned_in : Table → ℕ → ℕ → List ℕ → List ℕ → Bool
 turned_in t j s shown written = eqb (slot_in t j / 16) s && turn_at shown written (slot_in t j % 16 * 32)
 
-unfoldable pub turns_in : Table → ℕ → ℕ → List ℕ → List ℕ → DirKind → Bool
-turns_in t j s shown written (Kind k) = eqb (dir_in t j) k && turned_in t j s shown written
-turns_in t j s shown written NoDir = false
+unfoldable pub turns_in : Table → ℕ → ℕ → List ℕ → List ℕ → Option ℕ → Bool
+turns_in t j s shown written (Some k) = eqb (dir_in t j) k && turned_in t j s shown written
+turns_in t j s shown written None = false
 
 unfoldable pub turns_at : Table → ℕ → List ℕ → List ℕ → Place → Bool
 turns_at t j shown written Boot = false
@@ -76,14 +72,14 @@ unfoldable pub zeroes_entries : Table → ℕ → SectorWrite → Bool
 zeroes_entries t j x = zeroes_at t j x.shown x.written (place_of x.lba)
 
 -- in a parked block a sector equal to what `staged_read` shows is accepted unchanged, so it isn't staged
-unfoldable pub parked_same : List ℕ → List ℕ → List St → ℕ → List ℕ → Found → Bool
-parked_same fat area st s written (At i) = is_parked (get_or st i no_st) s && same (sector_of fat area (get_or st i no_st) s) written
-parked_same fat area st s written Nothing = false
+unfoldable pub parked_same : List ℕ → List ℕ → List St → ℕ → List ℕ → Option ℕ → Bool
+parked_same fat area st s written (Some i) = is_parked (get_or st i no_st) s && same (sector_of fat area (get_or st i no_st) s) written
+parked_same fat area st s written None = false
 
 -- A host cluster is staged, which goes by the state and the marks, as the judging does.
-unfoldable pub stages_in : SectorWrite → W → ℕ → ℕ → DirKind → Bool
-stages_in x w c s (Kind k) = false
-stages_in x w c s NoDir =
+unfoldable pub stages_in : SectorWrite → W → ℕ → ℕ → Option ℕ → Bool
+stages_in x w c s (Some k) = false
+stages_in x w c s None =
     host_cluster x.ids x.starts x.sizes w.first w.pair c && not (parked_same x.fat x.area w.st s x.written (slot_of w.st c))
 
 unfoldable pub stages_at : SectorWrite → W → Place → Bool

@@ -1,7 +1,7 @@
 -- A taken sector opens the session exactly where the rules say so.
 use Prim.Native.Nat.{ℕ, zero, suc, ◌+◌, ◌*◌, ◌<◌, ◌≤◌}
 use Rattle.std.proofs.Math.Bool.{Bool, false, not}
-use Rattle.std.specs.Prelude.{true, ◌&&◌, ◌||◌, ◌≡◌, eqb, get_or, set}
+use Rattle.std.specs.Prelude.{true, ◌&&◌, ◌||◌, ◌≡◌, eqb, get_or, set, Option, Some, None}
 use Rattle.std.proofs.Common.{true≢false, sym, ◌∙◌, arith}
 use Rattle.std.proofs.Math.Path.{refl, ap}
 use Rattle.std.proofs.Math.Dec.{leb}
@@ -12,8 +12,6 @@ use Rattle.loops.specs.Found.{found-by}
 use Rattle.vdisk.specs.Drive.{place_of, dir_kind_of}
 use Rattle.vdisk.specs.declared.drive.Place.{Place}
 use Rattle.vdisk.specs.declared.drive.Place.TheVariants.{Boot, Fat, Root, Data, Outside}
-use Rattle.vdisk.specs.declared.drive.DirKind.{DirKind}
-use Rattle.vdisk.specs.declared.drive.DirKind.TheVariants.{Kind, NoDir}
 use Rattle.root_slots.specs.OrLaws.{or-none}
 use Rattle.state.specs.State.{no_st}
 use Rattle.state.specs.Setters.{with_st}
@@ -155,10 +153,10 @@ module _ (x : SectorWrite) (w : W) where
   unfolding other_data
   other-opens c = unless-opens (other_data x w c) false (λ n. never (data_number (owner_in x w c)) (data-pass (owner_in x w c)) n)
 
-  cluster-opens : (c s : ℕ) (d : DirKind) → (cluster x w c s d).number ≡ 0 → (cluster x w c s d).changed ≡ not (unchanged_in x w c s d || dates_in x d)
+  cluster-opens : (c s : ℕ) (d : Option ℕ) → (cluster x w c s d).number ≡ 0 → (cluster x w c s d).changed ≡ not (unchanged_in x w c s d || dates_in x d)
   unfolding cluster unchanged_in dates_in
-  cluster-opens c s (Kind k) = unless-opens (dir x w k s) (only_bytes x (λ n. date_byte (place_in_slot n))) (dir-opens k s)
-  cluster-opens c s NoDir =
+  cluster-opens c s (Some k) = unless-opens (dir x w k s) (only_bytes x (λ n. date_byte (place_in_slot n))) (dir-opens k s)
+  cluster-opens c s None =
       either (is_host x w c)
       (λ e. rw e (λ n. stage-opens c s n ∙ ap not (sym (or-none (as_parked x (slot_before w c) s) false refl))))
       (λ e. rw e (other-opens c))

@@ -1,5 +1,5 @@
 -- What is kept up of a file is what demand 3 says: for every table and every row, call by call.
-use Rattle.std.specs.Prelude.{ℕ, Bool, ◌&&◌, ◌||◌, ◌≡◌, get_or}
+use Rattle.std.specs.Prelude.{ℕ, Bool, ◌&&◌, ◌||◌, ◌≡◌, get_or, Option, Some, None}
 use Rattle.std.proofs.Math.Bool.{true, false}
 use mathlib.Core.List.{List, [], ◌∷◌}
 use Rattle.std.proofs.Math.Path.{refl, sym}
@@ -12,8 +12,6 @@ use Rattle.vdisk.specs.Ids.{cleared}
 use Rattle.vdisk.specs.IdLaws.{id_dir-low}
 use Rattle.vdisk.specs.declared.drive.Place.{Place}
 use Rattle.vdisk.specs.declared.drive.Place.TheVariants.{Boot, Fat, Root, Data, Outside}
-use Rattle.vdisk.specs.declared.drive.DirKind.{DirKind}
-use Rattle.vdisk.specs.declared.drive.DirKind.TheVariants.{Kind, NoDir}
 use Rattle.file_table.specs.Table.{Table, in_file}
 use Rattle.state.specs.declared.w.W.{W}
 use Rattle.judge.specs.Classify.{SectorWrite}
@@ -35,10 +33,10 @@ module _ (t : Table) (j id : ℕ) (same : cleared id ≡ cleared (get_or t.ids j
   abbrev alone : Table
   alone = file_alone id (slot_in t j) (start_in t j) (size_in t j)
 
-  turns-in : (s : ℕ) (shown written : List ℕ) (d : DirKind) → turns_in alone 0 s shown written d ≡ turns_in t j s shown written d
+  turns-in : (s : ℕ) (shown written : List ℕ) (d : Option ℕ) → turns_in alone 0 s shown written d ≡ turns_in t j s shown written d
   unfolding turns_in turned_at
-  turns-in s shown written (Kind k) = rw (id_dir-low id (get_or t.ids j 0) same)
-  turns-in s shown written NoDir = refl
+  turns-in s shown written (Some k) = rw (id_dir-low id (get_or t.ids j 0) same)
+  turns-in s shown written None = refl
 
   turns-at : (shown written : List ℕ) (p : Place) → turns_at alone 0 shown written p ≡ turns_at t j shown written p
   unfolding turns_at

@@ -1,5 +1,5 @@
 -- The version number is another after a taken write exactly where the sector was staged.
-use Rattle.std.specs.Prelude.{ℕ, ◌+◌, ◌*◌, ◌/◌, Bool, ◌&&◌, ◌||◌, ◌≡◌, leb, eqb, get_or, set}
+use Rattle.std.specs.Prelude.{ℕ, ◌+◌, ◌*◌, ◌/◌, Bool, ◌&&◌, ◌||◌, ◌≡◌, leb, eqb, get_or, set, Option, Some, None}
 use Rattle.std.proofs.Math.Bool.{true, false, not}
 use Rattle.std.proofs.lemmas.Bool.{false≢true}
 use Rattle.std.proofs.Math.Path.{refl, ap}
@@ -8,16 +8,12 @@ use Rattle.std.proofs.Math.Nat.{div-eq_of_lt}
 use Rattle.loops.specs.Loops.{pick, fold}
 use Rattle.loops.specs.Choices.{pick-by, pick-has}
 use Rattle.loops.specs.Facts.{fold-keeps}
-use Rattle.loops.specs.declared.Found.{Found}
-use Rattle.loops.specs.declared.Found.TheVariants.{At, Nothing}
 use Rattle.num.specs.Num.{wrapping_next}
 use Rattle.bits.specs.Bit.{bit}
 use Rattle.sector.specs.Bytes.{same, zeros}
 use Rattle.vdisk.specs.Drive.{place_of, dir_kind_of}
 use Rattle.vdisk.specs.declared.drive.Place.{Place}
 use Rattle.vdisk.specs.declared.drive.Place.TheVariants.{Boot, Fat, Root, Data, Outside}
-use Rattle.vdisk.specs.declared.drive.DirKind.{DirKind}
-use Rattle.vdisk.specs.declared.drive.DirKind.TheVariants.{Kind, NoDir}
 use Rattle.slots.specs.Slots.{same_slot}
 use Rattle.records.specs.declared.Rec.{Rec}
 use Rattle.state.specs.State.{no_st}
@@ -102,15 +98,15 @@ module _ (x : StageWrite) (w : W) where
         rw q (pick-by (Staging (not b)) b (unchanged x w') (on_medium x (start_staging w') i y)
         (λ z. rw z (λ p. e)) (λ z. rw z (medium-steps (start_staging w') (start-ver w' ∙ e))))
 
-  claimed-steps : (f : Found) → Staging true (claimed x w f)
+  claimed-steps : (f : Option ℕ) → Staging true (claimed x w f)
   unfolding claimed with_st
-  claimed-steps (At i) = slot-steps i (slot_for x.c) (with_st w (set w.st i (slot_for x.c))) false refl (rw (fresh-slot x.c x.s))
-  claimed-steps Nothing = no-step w w true 16 refl
+  claimed-steps (Some i) = slot-steps i (slot_for x.c) (with_st w (set w.st i (slot_for x.c))) false refl (rw (fresh-slot x.c x.s))
+  claimed-steps None = no-step w w true 16 refl
 
-  found-steps : (f : Found) → Staging (not (parked_same x.fat x.area w.st x.s x.written f)) (in_found x w f)
+  found-steps : (f : Option ℕ) → Staging (not (parked_same x.fat x.area w.st x.s x.written f)) (in_found x w f)
   unfolding in_found parked_same
-  found-steps (At i) = slot-steps i (get_or w.st i no_st) w (parked_same x.fat x.area w.st x.s x.written (At i)) refl refl
-  found-steps Nothing = claimed-steps (free_slot w.st)
+  found-steps (Some i) = slot-steps i (get_or w.st i no_st) w (parked_same x.fat x.area w.st x.s x.written (Some i)) refl refl
+  found-steps None = claimed-steps (free_slot w.st)
 
   stage-steps : Staging (not (parked_same x.fat x.area w.st x.s x.written (slot_of w.st x.c))) (stage x w)
   unfolding stage
@@ -134,10 +130,10 @@ module _ (w : W) where
       h) 256 0 w refl)
       refl
 
-  put-left : (v : W) (r : Rec) (f : Found) → Left v → Left (put_at v r f)
+  put-left : (v : W) (r : Rec) (f : Option ℕ) → Left v → Left (put_at v r f)
   unfolding put_at with_rec
-  put-left v r (At n) h = h
-  put-left v r Nothing h = h
+  put-left v r (Some n) h = h
+  put-left v r None h = h
 
   root-left : (x : RootWrite) → Left (root_state x w)
   unfolding root_state keep_slot
@@ -155,10 +151,10 @@ module _ (x : SectorWrite) (w : W) where
   unfolding unless_shown
   unless-steps o h = pick-has (Judged false) (same x.shown x.written) (record { number = 0; changed = false; w = w; ids = x.ids; area = x.area }) o (λ q. refl) h
 
-  cluster-steps : (c s : ℕ) (d : DirKind) → Judged (stages_in x w c s d) (cluster x w c s d)
+  cluster-steps : (c s : ℕ) (d : Option ℕ) → Judged (stages_in x w c s d) (cluster x w c s d)
   unfolding cluster stages_in dir other_data
-  cluster-steps c s (Kind k) = unless-steps (dir x w k s) (λ q. refl)
-  cluster-steps c s NoDir =
+  cluster-steps c s (Some k) = unless-steps (dir x w k s) (λ q. refl)
+  cluster-steps c s None =
       let h = host_cluster x.ids x.starts x.sizes w.first w.pair c in
       let p = not (parked_same x.fat x.area w.st s x.written (slot_of w.st c)) in
       pick-by (Judged (h && p)) h (outcome_of (stage (stage_of x c s) w)) (unless_shown x w (other_data x w c))
