@@ -1,18 +1,16 @@
 -- Laws of the line of names, and of the lines after it.
-use Rattle.std.specs.Prelude.{ℕ, ◌+◌, ◌<◌, ◌≤◌, Bool, List, ◌≡◌, length, take}
+use Rattle.std.specs.Prelude.{ℕ, ◌+◌, ◌<◌, ◌≤◌, Bool, List, Option, Some, None, IfSome, option_and_then, option_map, ◌≡◌, length, take}
 use Rattle.std.proofs.Math.Bool.{true, false}
-use Rattle.std.proofs.lemmas.Bool.{false≢true, lt-leb}
-use Rattle.std.proofs.Math.Path.{refl}
-use Rattle.std.proofs.Common.{sym, ◌∙◌, arith, le-leb}
-use Rattle.loops.specs.Choices.{pick-by}
-use Rattle.lines.specs.Digits.{read_to, number_field}
-use Rattle.lines.specs.DigitLaws.{field-gives}
+use Rattle.std.proofs.lemmas.Bool.{lt-leb}
+use Rattle.std.proofs.Common.{sym, arith, le-leb}
+use Rattle.lines.specs.Digits.{number_field, Onward}
+use Rattle.lines.specs.DigitLaws.{field-onward}
 use Rattle.lines.specs.Words.{is_word}
 use Rattle.lines.specs.declared.digits.Read.{Read}
-use Rattle.entry_lines.specs.EntryLines.{max_input, max_entry, max_value, blank, newline, names, line_end, bad_names, names_line, entry_value, shown_value, written_value, bad_line, entry_line}
+use Rattle.entry_lines.specs.EntryLines.{max_input, max_entry, max_value, blank, newline, names, line_end, names_line, line_of, entry_line}
 use Rattle.entry_lines.specs.declared.Line.{Line}
 
-pub names-long : (input : List ℕ) → max_input < length input → bad_names ≡ names_line input
+pub names-long : (input : List ℕ) → max_input < length input → None ≡ names_line input
 unfolding names_line
 names-long input h = rw (lt-leb (length input) max_input h)
 
@@ -21,61 +19,58 @@ module _ (input : List ℕ) (end : ℕ) (b : Bool) (few : length input ≤ max_i
   same-names : is_word (take (line_end input) input) names ≡ b
   same-names = rw (← ends) (sym compared)
 
-  pub names-wrong : b ≡ false → bad_names ≡ names_line input
+  pub names-wrong : b ≡ false → None ≡ names_line input
   unfolding names_line
   names-wrong q = rw (le-leb (length input) max_input few, same-names, q)
 
-  pub names-right : b ≡ true → record { ok = true; next = end + 1 } ≡ names_line input
+  pub names-right : b ≡ true → Some (end + 1) ≡ names_line input
   unfolding names_line
   names-right q = rw (le-leb (length input) max_input few, same-names, q, ends)
 
--- a line that isn't bad is passed
+-- a line that isn't bad is passed, since each of its values is
 module _ (input : List ℕ) (at : ℕ) where
-  -- the first value, as a field
-  pub entry-field : entry_value input at ≡ number_field input (read_to 0 at) blank max_entry
-  unfolding entry_value number_field
-  entry-field = refl
+  beyond : (from sep most : ℕ) → at ≤ from → IfSome (number_field input from sep most) (λ r. at < r.next)
+  beyond from sep most l = later (number_field input from sep most) (field-onward input from most sep)
+    where
+      later : (o : Option Read) → IfSome o (Onward input from most) → IfSome o (λ r. at < r.next)
+      later None h = tt
+      later (Some r) h = let k = h.1 in omega arith
 
-  written-onward : (written_value input at).ok ≡ true → at < (written_value input at).next
-  unfolding written_value shown_value
-  written-onward e =
-      let a = field-gives input (read_to 0 at) blank max_entry (entry_value input at) entry-field in
-      let b = field-gives input (entry_value input at) blank max_value (shown_value input at) refl in
-      let d = field-gives input (shown_value input at) newline max_value (written_value input at) refl in
-      omega (arith, a.1.1.0, b.1.1.0, (d.1.1.1 e).0)
+  chained : (o : Option Read) (f : Read → Option Line) → IfSome o (λ r. at < r.next) → ((r : Read) → at < r.next → IfSome (f r) (λ l. at < l.next))
+      → IfSome (option_and_then f o) (λ l. at < l.next)
+  chained None f h k = tt
+  chained (Some r) f h k = k r h
 
-  pub line-onward : (entry_line input at).ok ≡ true → at < (entry_line input at).next
+  ended : (entry shown : Read) (o : Option Read) → IfSome o (λ r. at < r.next) → IfSome (option_map (line_of entry shown) o) (λ l. at < l.next)
+  ended entry shown None h = tt
+  ended entry shown (Some r) h = h
+
+  pub line-onward : IfSome (entry_line input at) (λ l. at < l.next)
   unfolding entry_line
   line-onward =
-      pick-by (λ (l : Line). l.ok ≡ true → at < l.next) (written_value input at).ok
-      (record { ok = true; entry = (entry_value input at).value; shown = (shown_value input at).value; written = (written_value input at).value; next = (written_value input at).next })
-      (bad_line at)
-      (λ e q. written-onward e)
-      (λ e q. absurd (false≢true q))
+      chained (number_field input at blank max_entry) _ (beyond at blank max_entry (omega arith))
+      (λ e p. chained (number_field input e.next blank max_value) _ (beyond e.next blank max_value (omega arith))
+      (λ s q. ended e s (number_field input s.next newline max_value) (beyond s.next newline max_value (omega arith))))
 
   -- what `next_line` ensures
-  pub line-gives : (l : Line) → l ≡ entry_line input at → (l ≡ entry_line input at) × (l.ok ≡ true → at < l.next)
-  line-gives l e = (e, rw e line-onward)
+  pub line-gives : (o : Option Line) → o ≡ entry_line input at → (o ≡ entry_line input at) × IfSome o (λ l. at < l.next)
+  line-gives o e = (e, rw e line-onward)
 
--- the three values as they are read, one after another
-module _ (input : List ℕ) (at : ℕ) (r e s v : Read) (from : (r.ok ≡ true) × (r.next ≡ at))
-    (entry : e ≡ number_field input r blank max_entry) (shown : s ≡ number_field input e blank max_value) (written : v ≡ number_field input s newline max_value) where
-  entry-is : e ≡ entry_value input at
-  unfolding entry_value number_field
-  entry-is = entry ∙ rw (from.0, from.1)
-
-  shown-is : s ≡ shown_value input at
-  unfolding shown_value
-  shown-is = shown ∙ rw entry-is
-
-  written-is : v ≡ written_value input at
-  unfolding written_value
-  written-is = written ∙ rw shown-is
-
-  pub line-bad : v.ok ≡ false → bad_line at ≡ entry_line input at
+  -- the three values as they are read, one after another
+  pub line-good : (e s v : Read) → number_field input at blank max_entry ≡ Some e → number_field input e.next blank max_value ≡ Some s
+      → number_field input s.next newline max_value ≡ Some v → Some (line_of e s v) ≡ entry_line input at
   unfolding entry_line
-  line-bad q = let z : (written_value input at).ok ≡ false = rw written-is at q in rw z
+  line-good e s v p q r = rw (p, q, r)
 
-  pub line-good : v.ok ≡ true → record { ok = true; entry = e.value; shown = s.value; written = v.value; next = v.next } ≡ entry_line input at
+  pub line-bad : number_field input at blank max_entry ≡ None → None ≡ entry_line input at
   unfolding entry_line
-  line-good q = let z : (written_value input at).ok ≡ true = rw written-is at q in rw (z, entry-is, shown-is, written-is)
+  line-bad p = rw p
+
+  pub shown-bad : (e : Read) → number_field input at blank max_entry ≡ Some e → number_field input e.next blank max_value ≡ None → None ≡ entry_line input at
+  unfolding entry_line
+  shown-bad e p q = rw (p, q)
+
+  pub written-bad : (e s : Read) → number_field input at blank max_entry ≡ Some e → number_field input e.next blank max_value ≡ Some s
+      → number_field input s.next newline max_value ≡ None → None ≡ entry_line input at
+  unfolding entry_line
+  written-bad e s p q r = rw (p, q, r)

@@ -1,11 +1,10 @@
 -- The lines that the entry listing reads (document 01, "The entry listing").
-use Rattle.std.specs.Prelude.{ℕ, ◌+◌, true, false, ◌&&◌, List, leb, eqb, length, get_or, take}
+use Rattle.std.specs.Prelude.{ℕ, ◌+◌, ◌&&◌, List, Option, Some, None, option_and_then, option_map, leb, eqb, length, get_or, take}
 use Rattle.loops.specs.Loops.{pick, first}
 use Rattle.slots.specs.Text.{text}
-use Rattle.lines.specs.Digits.{number_at, field_end, number_field}
+use Rattle.lines.specs.Digits.{number_field}
 use Rattle.lines.specs.Words.{is_word}
 use Rattle.lines.specs.declared.digits.Read.{Read}
-use Rattle.entry_lines.specs.declared.Names.{Names}
 use Rattle.entry_lines.specs.declared.Line.{Line}
 
 -- standard input (to 4,096 bytes), entries to 65,023, values to 65,535
@@ -32,31 +31,20 @@ names = text "entry shown written"
 unfoldable pub line_end : List ℕ → ℕ
 line_end input = first (λ i. eqb (get_or input i 0) newline) (length input) 0
 
-abbrev pub bad_names : Names
-bad_names = record { ok = false; next = 0 }
-
 -- Longer input is bad, and so are wrong names; the other lines begin past the first one's end.
-unfoldable pub names_line : List ℕ → Names
-names_line input =
-    pick (leb (length input) max_input && is_word (take (line_end input) input) names) (record { ok = true; next = line_end input + 1 }) bad_names
+unfoldable pub names_line : List ℕ → Option ℕ
+names_line input = pick (leb (length input) max_input && is_word (take (line_end input) input) names) (Some (line_end input + 1)) None
 
 -- A line has three decimal values: an entry, what is shown and what is written. A value is one digit or more, with no sign, and leading zeros
 -- don't change it. One blank stands after each of the first two, and no other; the third ends with the line's newline, or with the input.
-unfoldable pub entry_value : List ℕ → ℕ → Read
-entry_value input at = field_end input (number_at input at max_entry) blank
+abbrev pub line_of : Read → Read → Read → Line
+line_of entry shown written = record { entry = entry.value; shown = shown.value; written = written.value; next = written.next }
 
-unfoldable pub shown_value : List ℕ → ℕ → Read
-shown_value input at = number_field input (entry_value input at) blank max_value
-
-unfoldable pub written_value : List ℕ → ℕ → Read
-written_value input at = number_field input (shown_value input at) newline max_value
-
-abbrev pub bad_line : ℕ → Line
-bad_line at = record { ok = false; entry = 0; shown = 0; written = 0; next = at }
-
--- anything else is a bad line: not three values, an entry over 65,023, a value over 65,535
-unfoldable pub entry_line : List ℕ → ℕ → Line
+-- Anything else is a bad line: not three values, an entry over 65,023, a value over 65,535.
+unfoldable pub entry_line : List ℕ → ℕ → Option Line
 entry_line input at =
-    pick (written_value input at).ok
-    (record { ok = true; entry = (entry_value input at).value; shown = (shown_value input at).value; written = (written_value input at).value; next = (written_value input at).next })
-    (bad_line at)
+    option_and_then
+    (λ entry. option_and_then
+    (λ shown. option_map (line_of entry shown) (number_field input shown.next newline max_value))
+    (number_field input entry.next blank max_value))
+    (number_field input at blank max_entry)

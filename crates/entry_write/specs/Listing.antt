@@ -1,5 +1,5 @@
 -- The listing of an input (document 01, "The entry listing"): each line is judged on what the one before left.
-use Rattle.std.specs.Prelude.{ℕ, zero, suc, true, false, List, leb, length}
+use Rattle.std.specs.Prelude.{ℕ, zero, suc, true, false, List, Option, Some, None, leb, length}
 use Rattle.loops.specs.Loops.{pick}
 use Rattle.state.specs.declared.w.W.{W}
 use Rattle.write.specs.Write.{write}
@@ -15,6 +15,11 @@ end_at w = record { ok = true; w = w }
 abbrev pub bad_at : W → Listing
 bad_at w = record { ok = false; w = w }
 
+-- what a value that is there gives, or the bad end
+abbrev pub good : {A : Type 0} → (A → Listing) → W → Option A → Listing
+good f w None = bad_at w
+good f w (Some a) = f a
+
 -- the state after a line
 unfoldable pub after_line : Line → W → W
 after_line l w = (write (entry_write l.entry l.shown l.written) w).w
@@ -24,8 +29,8 @@ unfoldable pub listed_from : ℕ → List ℕ → ℕ → W → Listing
 listed_from zero input at w = end_at w
 listed_from (suc n) input at w =
     pick (leb (length input) at) (end_at w)
-    (pick (entry_line input at).ok (listed_from n input (entry_line input at).next (after_line (entry_line input at) w)) (bad_at w))
+    (good (λ l. listed_from n input l.next (after_line l w)) w (entry_line input at))
 
 -- a line has a byte or more, so there are no more lines than bytes
 unfoldable pub listed : List ℕ → Listing
-listed input = pick (names_line input).ok (listed_from (length input) input (names_line input).next drive) (bad_at drive)
+listed input = good (λ at. listed_from (length input) input at drive) drive (names_line input)

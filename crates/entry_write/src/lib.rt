@@ -76,12 +76,11 @@ pub fn entry_write(w: W, entry: u16, shown: u16, new: u16) -> Judged
 {
     let o = answer_to(w, entry, shown, new);
     let after = o.w;
-    let pair = after.pair;
     let row = Row {
-        entry: entry,
+        entry,
         answer: o.no,
-        pairs: pairs_held(pair),
+        pairs: pairs_held(after.pair),
         fat1: fat1(after),
     };
-    Judged { row: row, w: after }
+    Judged { row, w: after }
 }

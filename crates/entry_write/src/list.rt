@@ -8,33 +8,25 @@ use printed::Output;
 use state::w::W;
 use std::io::Write;
 
-// Was the input good to its end, and the state after its last good line.
+// Was the input good to its end, and the state after its last good line. The state counts in both cases, so this is no `Option`.
 #[derive(Clone, Copy)]
 pub struct Listing {
     pub ok: bool,
     pub w: W,
 }
 
-fn text(out: &mut Output<impl Write>, t: &[u8]) {
-    out.text(t);
-}
-
 fn show(out: &mut Output<impl Write>, row: Row) {
     out.decimal(row.entry as u64);
-    text(out, b" ");
-    out.decimal(row.answer as u64);
-    text(out, b" ");
-    out.decimal(row.pairs as u64);
-    text(out, b" ");
-    out.decimal(row.fat1 as u64);
-    text(out, b"\n");
+    out.number(row.answer as u64);
+    out.number(row.pairs as u64);
+    out.answer(row.fat1 as u64);
 }
 
 fn bad(out: &mut Output<impl Write>, w: W) -> Listing
     ensures { result ≡ bad_at w }
 {
-    text(out, b"bad\n");
-    Listing { ok: false, w: w }
+    out.text(b"bad\n");
+    Listing { ok: false, w }
 }
 
 // The lines from `from` on; a bad one ends the listing.
@@ -43,27 +35,26 @@ fn lines(out: &mut Output<impl Write>, input: &[u8], from: usize, first: W) -> L
 {
     let mut w = first;
     let mut at = from;
+    // A line takes a byte or more, so no range goes over the places.
     while at < input.len() {
-        let line = next_line(input, at);
-        if !line.ok {
+        let Some(line) = next_line(input, at) else {
             return bad(out, w);
-        }
+        };
         let o = entry_write(w, line.entry, line.shown, line.written);
         show(out, o.row);
         w = o.w;
         at = line.next;
     }
-    Listing { ok: true, w: w }
+    Listing { ok: true, w }
 }
 
 pub fn list(out: &mut Output<impl Write>, input: &[u8]) -> Listing
     ensures { result ≡ listed input.now }
 {
-    let names = names_line(input);
     let w = drive();
-    if !names.ok {
+    let Some(at) = names_line(input) else {
         return bad(out, w);
-    }
-    text(out, b"entry answer pairs fat1\n");
-    lines(out, input, names.next, w)
+    };
+    out.text(b"entry answer pairs fat1\n");
+    lines(out, input, at, w)
 }

@@ -1,13 +1,10 @@
 -- Numbers and bytes of a line.
-use Rattle.std.specs.Prelude.{ℕ, ◌+◌, ◌-◌, ◌*◌, Bool, true, false, not, ◌&&◌, List, leb, ltb, eqb, length, get_or}
+use Rattle.std.specs.Prelude.{ℕ, ◌+◌, ◌-◌, ◌*◌, ◌<◌, ◌≤◌, Bool, not, ◌&&◌, List, Option, Some, None, option_and_then, leb, ltb, eqb, length, get_or}
 use Rattle.loops.specs.Loops.{pick, first, fold}
 use Rattle.lines.specs.declared.digits.Read.{Read}
 
-abbrev pub read_to : ℕ → ℕ → Read
-read_to value next = record { ok = true; value = value; next = next }
-
-abbrev pub failed_at : ℕ → Read
-failed_at at = record { ok = false; value = 0; next = at }
+abbrev pub read_to : ℕ → ℕ → Option Read
+read_to value next = Some (record { value = value; next = next })
 
 -- 0 to 9
 unfoldable pub is_digit : ℕ → Bool
@@ -24,27 +21,29 @@ unfoldable pub decimal : List ℕ → ℕ → ℕ
 decimal line at = fold (appended line) (digits_end line at - at) at 0
 
 -- a number: one digit or more, and at most `most`
-unfoldable pub number_at : List ℕ → ℕ → ℕ → Read
+unfoldable pub number_at : List ℕ → ℕ → ℕ → Option Read
 number_at line at most =
-    pick (ltb at (digits_end line at) && leb (decimal line at) most) (read_to (decimal line at) (digits_end line at)) (failed_at at)
+    pick (ltb at (digits_end line at) && leb (decimal line at) most) (read_to (decimal line at) (digits_end line at)) None
 
 -- a field ends with the line or with its separator, which is passed
-unfoldable pub field_end : List ℕ → Read → ℕ → Read
+unfoldable pub field_end : List ℕ → Read → ℕ → Option Read
 field_end line r sep =
-    pick r.ok
-    (pick (leb (length line) r.next) r (pick (eqb (get_or line r.next 0) sep) (read_to r.value (r.next + 1)) (failed_at r.next)))
-    (failed_at r.next)
+    pick (leb (length line) r.next) (Some r) (pick (eqb (get_or line r.next 0) sep) (read_to r.value (r.next + 1)) None)
 
-unfoldable pub number_field : List ℕ → Read → ℕ → ℕ → Read
-number_field line r sep most = pick r.ok (field_end line (number_at line r.next most) sep) (failed_at r.next)
+unfoldable pub number_field : List ℕ → ℕ → ℕ → ℕ → Option Read
+number_field line at sep most = option_and_then (λ r. field_end line r sep) (number_at line at most)
+
+-- What a read leaves: a number in its bounds, and a place past where it began.
+abbrev pub Onward : List ℕ → ℕ → ℕ → Read → Type 0
+Onward line at most r = (r.value ≤ most) × (at < r.next) × (r.next ≤ length line)
 
 -- a hex digit's value, 16 for another character
 unfoldable pub hex_digit : ℕ → ℕ
 hex_digit c = pick (is_digit c) (c - 48) (pick (leb 65 c && leb c 70) (c - 55) (pick (leb 97 c && leb c 102) (c - 87) 16))
 
 -- the byte that two hex digits give
-unfoldable pub byte_at : List ℕ → ℕ → Read
+unfoldable pub byte_at : List ℕ → ℕ → Option ℕ
 byte_at line at =
     pick (leb (at + 2) (length line) && ltb (hex_digit (get_or line at 0)) 16 && ltb (hex_digit (get_or line (at + 1) 0)) 16)
-    (read_to (hex_digit (get_or line at 0) * 16 + hex_digit (get_or line (at + 1) 0)) (at + 2))
-    (failed_at at)
+    (Some (hex_digit (get_or line at 0) * 16 + hex_digit (get_or line (at + 1) 0)))
+    None

@@ -1,5 +1,5 @@
 // The words of a line.
-ghost use Rattle.std.specs.Prelude.{◌≡◌, ℕ, ◌≤◌, length};
+ghost use Rattle.std.specs.Prelude.{◌≡◌, ◌≤◌, length};
 ghost use Rattle.lines.specs.Words.{word_end, is_word};
 
 // Where the word at `at` ends: before a blank, or with the line.
@@ -8,21 +8,16 @@ pub fn word_end(line: &[u8], at: usize) -> usize
     ensures place { result ≡ word_end line.now at }
     ensures bounds { (at ≤ result) × (result ≤ length line.now) }
 {
-    let mut i = at;
-    while i < line.len() {
+    for i in at..line.len() {
         if line[i] == b' ' {
             return i;
         }
-        i += 1;
     }
-    i
+    line.len()
 }
 
 pub fn is_word(word: &[u8], name: &[u8]) -> bool
     ensures { result ≡ is_word word.now name.now }
 {
-    if word.len() != name.len() {
-        return false;
-    }
-    sector::equal(word, name)
+    word.len() == name.len() && sector::equal(word, name)
 }

@@ -1,51 +1,49 @@
-// A bad line may leave some of its values set.
-use lines::digits::{Read, from, hex_bytes, number, whole};
-use session_lines::session::{Medium, Session, Step, bad, silent, with_medium};
+// A bad line answers nothing, and may leave some of its values set.
+use lines::digits::{hex_bytes, number, whole};
+use session_lines::session::{Medium, Session, Step, silent, with_medium};
 
 fn fill_entries(fat: &mut [u16], from: usize, to: usize, v: u16) {
-    let mut i = from;
-    while i < to {
-        if fat.len() <= i {
-            return;
-        }
-        fat[i] = v;
-        i += 1;
+    for e in fat.iter_mut().take(to).skip(from) {
+        *e = v;
     }
 }
 
 // `medium N LEN FILL`
-pub fn medium(s: Session, line: &[u8], at: usize, fat: &mut [u16], area: &mut [u8]) -> Step {
-    let n = number(line, from(at), b' ', fat.len() as u64);
-    let len = number(line, n, b' ', area.len() as u64);
-    let v = number(line, len, b' ', 255);
+pub fn medium(
+    s: Session,
+    line: &[u8],
+    at: usize,
+    fat: &mut [u16],
+    area: &mut [u8],
+) -> Option<Step> {
+    let n = number(line, at, b' ', fat.len() as u64)?;
+    let len = number(line, n.next, b' ', area.len() as u64)?;
+    let v = number(line, len.next, b' ', 255)?;
     if !whole(line, v) {
-        return bad(s);
+        return None;
     }
     let entries = n.value as usize;
     let bytes = len.value as usize;
     fill_entries(fat, 0, entries, 0);
     sector::fill(&mut area[..bytes], v.value as u8);
-    with_medium(
+    Some(with_medium(
         s,
         Medium {
-            entries: entries,
-            bytes: bytes,
+            entries,
+            bytes,
             lent_entries: entries,
             lent_bytes: bytes,
         },
-    )
+    ))
 }
 
 // `mfill V FROM TO`
-pub fn mfill(s: Session, line: &[u8], at: usize, fat: &mut [u16]) -> Step {
-    let v = number(line, from(at), b' ', 65535);
-    let first = number(line, v, b' ', s.m.entries as u64);
-    let end = number(line, first, b' ', s.m.entries as u64);
-    if !whole(line, end) {
-        return bad(s);
-    }
-    if end.value < first.value {
-        return bad(s);
+pub fn mfill(s: Session, line: &[u8], at: usize, fat: &mut [u16]) -> Option<Step> {
+    let v = number(line, at, b' ', 65535)?;
+    let first = number(line, v.next, b' ', s.m.entries as u64)?;
+    let end = number(line, first.next, b' ', s.m.entries as u64)?;
+    if !whole(line, end) || end.value < first.value {
+        return None;
     }
     fill_entries(
         fat,
@@ -53,72 +51,58 @@ pub fn mfill(s: Session, line: &[u8], at: usize, fat: &mut [u16]) -> Step {
         end.value as usize,
         v.value as u16,
     );
-    silent(s)
+    Some(silent(s))
 }
 
 // The values of `mfat`, from entry `first` on.
-fn entries(line: &[u8], r: Read, fat: &mut [u16], first: usize, end: usize) -> bool {
-    if !r.ok {
-        return false;
-    }
-    let mut at = r.next;
+fn entries(line: &[u8], from: usize, fat: &mut [u16], first: usize, end: usize) -> Option<()> {
+    let mut at = from;
     let mut i = first;
+    // A value takes a byte or more, so no range goes over the places.
     while at < line.len() {
-        let v = number(line, from(at), b' ', 65535);
-        if !v.ok {
-            return false;
-        }
+        let v = number(line, at, b' ', 65535)?;
         if end <= i {
-            return false;
+            return None;
         }
-        if fat.len() <= i {
-            return false;
-        }
-        fat[i] = v.value as u16;
+        *fat.get_mut(i)? = v.value as u16;
         at = v.next;
         i += 1;
     }
-    true
+    Some(())
 }
 
 // `mfat I V ..`
-pub fn mfat(s: Session, line: &[u8], at: usize, fat: &mut [u16]) -> Step {
+pub fn mfat(s: Session, line: &[u8], at: usize, fat: &mut [u16]) -> Option<Step> {
     let end = s.m.entries;
-    let i = number(line, from(at), b' ', end as u64);
-    if !entries(line, i, fat, i.value as usize, end) {
-        return bad(s);
-    }
-    silent(s)
+    let i = number(line, at, b' ', end as u64)?;
+    entries(line, i.next, fat, i.value as usize, end)?;
+    Some(silent(s))
 }
 
 // `mdata OFFSET HEX`
-pub fn mdata(s: Session, line: &[u8], at: usize, area: &mut [u8]) -> Step {
+pub fn mdata(s: Session, line: &[u8], at: usize, area: &mut [u8]) -> Option<Step> {
     let bytes = s.m.bytes;
-    if area.len() < bytes {
-        return bad(s);
-    }
-    let off = number(line, from(at), b' ', bytes as u64);
-    let b = hex_bytes(line, off, &mut area[..bytes], off.value as usize);
+    let off = number(line, at, b' ', bytes as u64)?;
+    let b = hex_bytes(line, off.next, area.get_mut(..bytes)?, off.value as usize)?;
     if !whole(line, b) {
-        return bad(s);
+        return None;
     }
-    silent(s)
+    Some(silent(s))
 }
 
 // `lend N LEN`
-pub fn lend(s: Session, line: &[u8], at: usize) -> Step {
-    let n = number(line, from(at), b' ', s.m.entries as u64);
-    let len = number(line, n, b' ', s.m.bytes as u64);
+pub fn lend(s: Session, line: &[u8], at: usize) -> Option<Step> {
+    let n = number(line, at, b' ', s.m.entries as u64)?;
+    let len = number(line, n.next, b' ', s.m.bytes as u64)?;
     if !whole(line, len) {
-        return bad(s);
+        return None;
     }
-    with_medium(
+    Some(with_medium(
         s,
         Medium {
-            entries: s.m.entries,
-            bytes: s.m.bytes,
             lent_entries: n.value as usize,
             lent_bytes: len.value as usize,
+            ..s.m
         },
-    )
+    ))
 }

@@ -1,7 +1,7 @@
 //! What a program prints: text and numbers, one after the other.
 #![tactic(auto)]
 
-ghost use Rattle.std.specs.Prelude.{◌≡◌, IsOk, IsErr, IfSome};
+ghost use Rattle.std.specs.Prelude.{◌≡◌, IsOk, IsErr, IfSome, codes};
 ghost use Rattle.std.specs.Io.KnownBytes.{Appends};
 
 use std::io;
@@ -40,6 +40,36 @@ impl<W: Write> Output<W> {
         if self.written.is_ok() {
             self.written = write!(self.to, "{n}");
         }
+    }
+
+    /// A text and a number after it.
+    pub fn named(&mut self, name: &[u8], n: u64)
+        ensures failed { IsErr self.old.written → self.new ≡ self.old }
+    {
+        self.text(name);
+        self.decimal(n);
+    }
+
+    /// A blank and a number.
+    pub fn number(&mut self, n: u64)
+        ensures failed { IsErr self.old.written → self.new ≡ self.old }
+    {
+        self.named(b" ", n);
+    }
+
+    /// A number, with which the line ends.
+    pub fn answer(&mut self, n: u64)
+        ensures failed { IsErr self.old.written → self.new ≡ self.old }
+    {
+        self.number(n);
+        self.line_end();
+    }
+
+    pub fn line_end(&mut self)
+        ensures failed { IsErr self.old.written → self.new ≡ self.old }
+        ensures bytes { IsOk self.new.written → Appends (W.contents self.old.to) (W.contents self.new.to) (codes "\n") }
+    {
+        self.text(b"\n");
     }
 
     /// Two hex digits.

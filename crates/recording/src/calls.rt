@@ -2,7 +2,7 @@
 ghost use Rattle.std.specs.Prelude.{◌≡◌, ◌≤◌, length, get_or};
 ghost use Rattle.session_lines.specs.Steps.{silent_step};
 
-use lines::words::{is_word, word_end};
+use lines::words::word_end;
 use media_lines::media;
 use printed::Output;
 use release_lines::calls;
@@ -13,13 +13,10 @@ use std::io::Write;
 use table_lines::{gone, start};
 use write_lines::writes;
 
-fn state(out: &mut Output<impl Write>, s: Session, area: &[u8]) -> Step {
-    let bytes = s.m.bytes;
-    if area.len() < bytes {
-        return bad(s);
-    }
-    shown::state(out, s.w, s.t, &area[..bytes]);
-    silent(s)
+fn state(out: &mut Output<impl Write>, s: Session, area: &[u8]) -> Option<Step> {
+    let bytes = area.get(..s.m.bytes)?;
+    shown::state(out, s.w, s.t, bytes);
+    Some(silent(s))
 }
 
 fn handed(out: &mut Output<impl Write>, s: Session) -> Step
@@ -30,98 +27,67 @@ fn handed(out: &mut Output<impl Write>, s: Session) -> Step
 }
 
 // The lines of one word.
-fn alone(out: &mut Output<impl Write>, s: Session, line: &[u8], fat: &[u16], area: &[u8]) -> Step {
-    if is_word(line, b"handed") {
-        return handed(out, s);
+fn alone(
+    out: &mut Output<impl Write>,
+    s: Session,
+    line: &[u8],
+    fat: &[u16],
+    area: &[u8],
+) -> Option<Step> {
+    match line {
+        b"handed" => Some(handed(out, s)),
+        b"state" => state(out, s, area),
+        b"release" => Some(calls::release(s, fat, area)),
+        b"bus_reset" => Some(calls::bus_reset(s, fat, area)),
+        b"bus_reset_w" => Some(mode::bus_reset_w(s)),
+        _ => None,
     }
-    if is_word(line, b"state") {
-        return state(out, s, area);
-    }
-    if is_word(line, b"release") {
-        return calls::release(s, fat, area);
-    }
-    if is_word(line, b"bus_reset") {
-        return calls::bus_reset(s, fat, area);
-    }
-    if is_word(line, b"bus_reset_w") {
-        return mode::bus_reset_w(s);
-    }
-    bad(s)
 }
 
 // The lines that change nothing but the medium.
-fn on_medium(s: Session, line: &[u8], end: usize, fat: &mut [u16], area: &mut [u8]) -> Step
+fn on_medium(s: Session, line: &[u8], end: usize, fat: &mut [u16], area: &mut [u8]) -> Option<Step>
     requires { end ≤ length line.now }
 {
-    let word = &line[..end];
     let at = end + 1;
-    if is_word(word, b"medium") {
-        return media::medium(s, line, at, fat, area);
+    match &line[..end] {
+        b"medium" => media::medium(s, line, at, fat, area),
+        b"mfill" => media::mfill(s, line, at, fat),
+        b"mfat" => media::mfat(s, line, at, fat),
+        b"mdata" => media::mdata(s, line, at, area),
+        b"lend" => media::lend(s, line, at),
+        _ => None,
     }
-    if is_word(word, b"mfill") {
-        return media::mfill(s, line, at, fat);
-    }
-    if is_word(word, b"mfat") {
-        return media::mfat(s, line, at, fat);
-    }
-    if is_word(word, b"mdata") {
-        return media::mdata(s, line, at, area);
-    }
-    if is_word(word, b"lend") {
-        return media::lend(s, line, at);
-    }
-    bad(s)
 }
 
 // The lines that set the state.
-fn on_state(s: Session, line: &[u8], end: usize, fat: &mut [u16], area: &mut [u8]) -> Step
+fn on_state(s: Session, line: &[u8], end: usize, fat: &mut [u16], area: &mut [u8]) -> Option<Step>
     requires { end ≤ length line.now }
 {
-    let word = &line[..end];
     let at = end + 1;
-    if is_word(word, b"rw") {
-        return mode::rw(s, line, at);
+    match &line[..end] {
+        b"rw" => mode::rw(s, line, at),
+        b"set_read_only" => mode::set_read_only(s, line, at),
+        b"pair" => direct::pair(s, line, at),
+        b"slot" => direct::slot(s, line, at),
+        b"rec" => direct::rec(s, line, at),
+        b"set" => fields::set(s, line, at),
+        _ => on_medium(s, line, end, fat, area),
     }
-    if is_word(word, b"set_read_only") {
-        return mode::set_read_only(s, line, at);
-    }
-    if is_word(word, b"pair") {
-        return direct::pair(s, line, at);
-    }
-    if is_word(word, b"slot") {
-        return direct::slot(s, line, at);
-    }
-    if is_word(word, b"rec") {
-        return direct::rec(s, line, at);
-    }
-    if is_word(word, b"set") {
-        return fields::set(s, line, at);
-    }
-    on_medium(s, line, end, fat, area)
 }
 
 // The calls that answer.
-fn on_table(s: Session, line: &[u8], end: usize, fat: &mut [u16], area: &mut [u8]) -> Step
+fn on_table(s: Session, line: &[u8], end: usize, fat: &mut [u16], area: &mut [u8]) -> Option<Step>
     requires { end ≤ length line.now }
 {
-    let word = &line[..end];
     let at = end + 1;
-    if is_word(word, b"start") {
-        return start::start(s, line, at);
+    match &line[..end] {
+        b"start" => start::start(s, line, at),
+        b"write" => writes::write(s, line, at, fat, area),
+        b"poll" => calls::poll(s, line, at, fat, area),
+        b"release_all" => calls::release_all(s, line, at, fat, area),
+        b"gone" => gone::gone(s, line, at),
+        _ => on_state(s, line, end, fat, area),
     }
-    if is_word(word, b"write") {
-        return writes::write(s, line, at, fat, area);
-    }
-    if is_word(word, b"poll") {
-        return calls::poll(s, line, at, fat, area);
-    }
-    if is_word(word, b"release_all") {
-        return calls::release_all(s, line, at, fat, area);
-    }
-    if is_word(word, b"gone") {
-        return gone::gone(s, line, at);
-    }
-    on_state(s, line, end, fat, area)
 }
 
 fn call(
@@ -130,7 +96,7 @@ fn call(
     line: &[u8],
     fat: &mut [u16],
     area: &mut [u8],
-) -> Step {
+) -> Option<Step> {
     let end = word_end(line, 0);
     if end == line.len() {
         return alone(out, s, line, fat, area);
@@ -138,7 +104,7 @@ fn call(
     on_table(s, line, end, fat, area)
 }
 
-// The session after line `number`. A line that begins with `#` is a remark.
+// The session after line `number`. A line that begins with `#` is a remark, and a bad one leaves the session as it was.
 pub fn run(
     out: &mut Output<impl Write>,
     s: Session,
@@ -149,15 +115,10 @@ pub fn run(
 ) -> Session
     ensures { get_or line.now 0 0 ≡ 35 → result ≡ s }
 {
-    if line.len() == 0 {
-        shown::answer(out, number, Said::Bad);
+    if line.first() == Some(&b'#') {
         return s;
     }
-    if line[0] == b'#' {
-        return s;
-    }
-    let step = call(out, s, line, fat, area);
-    let said = step.said;
-    shown::answer(out, number, said);
+    let step = call(out, s, line, fat, area).unwrap_or(bad(s));
+    shown::answer(out, number, step.said);
     step.s
 }

@@ -1,33 +1,30 @@
 // The lines of an input, run one after the other.
-ghost use Rattle.std.specs.Prelude.{◌≤◌, length};
-
 use crate::calls::run;
 use printed::Output;
 use session_lines::session::fresh;
-use std::io::Write;
+use std::io;
+use std::io::{Read, Write};
 
-// Where the line at `at` ends.
-fn line_end(input: &[u8], at: usize) -> usize
-    requires { at ≤ length input.now }
-    ensures { (at ≤ result) × (result ≤ length input.now) }
-{
-    for i in at..input.len() {
-        if input[i] == b'\n' {
-            return i;
-        }
-    }
-    input.len()
-}
+// No more of the input is read.
+const INPUT_MOST: u64 = 65536;
 
 // From a fresh session on, with the medium in what is lent.
 pub fn run_all(out: &mut Output<impl Write>, input: &[u8], fat: &mut [u16], area: &mut [u8]) {
     let mut s = fresh();
-    let mut number = 0;
-    let mut at = 0;
-    while at < input.len() {
-        let end = line_end(input, at);
-        number += 1;
-        s = run(out, s, &input[at..end], number, fat, area);
-        at = end + 1;
+    for (i, line) in input.split_inclusive(|c| *c == b'\n').enumerate() {
+        let text = line.strip_suffix(b"\n").unwrap_or(line);
+        s = run(out, s, text, i as u64 + 1, fat, area);
     }
+}
+
+// Runs what stands in the standard input, and prints what it answers.
+pub fn run_input(rt: &(impl Input + Print + AllocGlobal)) -> io::Result<()> {
+    let mut input = Vec::new(rt.alloc());
+    let read = rt.reader().take(INPUT_MOST).read_to_end(&mut input);
+    let mut out = Output::new(io::writer(rt));
+    let mut fat = [0u16; 34];
+    let mut area = [0u8; 131072];
+    run_all(&mut out, &input, &mut fat, &mut area);
+    read?;
+    out.finish()
 }

@@ -4,28 +4,28 @@ ghost use Rattle.release_lines.specs.declared.ends.Call.TheVariants.{Release, Bu
 ghost use Rattle.release_lines.specs.Ends.{ended_step};
 
 use crate::ends::{Call, run};
-use lines::digits::{from, number, whole};
-use session_lines::session::{Session, Step, bad};
+use lines::digits::{number, whole};
+use session_lines::session::{Session, Step};
 
 // `poll CLOCK BUSY MOUNTED`; the busy flag is not looked at.
-pub fn poll(s: Session, line: &[u8], at: usize, fat: &[u16], area: &[u8]) -> Step {
-    let clock = number(line, from(at), b' ', 18446744073709551615);
-    let busy = number(line, clock, b' ', 1);
-    let mounted = number(line, busy, b' ', 1);
+pub fn poll(s: Session, line: &[u8], at: usize, fat: &[u16], area: &[u8]) -> Option<Step> {
+    let clock = number(line, at, b' ', 18446744073709551615)?;
+    let busy = number(line, clock.next, b' ', 1)?;
+    let mounted = number(line, busy.next, b' ', 1)?;
     if !whole(line, mounted) {
-        return bad(s);
+        return None;
     }
     let call = Call::Poll(clock.value, mounted.value == 1);
-    run(s, call, fat, area)
+    Some(run(s, call, fat, area))
 }
 
 // `release_all 0|1`
-pub fn release_all(s: Session, line: &[u8], at: usize, fat: &[u16], area: &[u8]) -> Step {
-    let reset = number(line, from(at), b' ', 1);
+pub fn release_all(s: Session, line: &[u8], at: usize, fat: &[u16], area: &[u8]) -> Option<Step> {
+    let reset = number(line, at, b' ', 1)?;
     if !whole(line, reset) {
-        return bad(s);
+        return None;
     }
-    run(s, Call::ReleaseAll(reset.value == 1), fat, area)
+    Some(run(s, Call::ReleaseAll(reset.value == 1), fat, area))
 }
 
 // `release`

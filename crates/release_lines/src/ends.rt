@@ -1,16 +1,19 @@
 // The calls that may end the session.
 ghost use Rattle.std.specs.Prelude.{◌≡◌, ◌≤◌};
-ghost use Rattle.release.specs.Release.{lending};
-ghost use Rattle.session_lines.specs.Steps.{with_ids};
-ghost use Rattle.release_lines.specs.Ends.{ended_by, lent, ended_step};
+ghost use Rattle.file_table.specs.Files.{with_ids};
+ghost use Rattle.release.specs.Release.{EndsBy, answered, end_answer};
+ghost use Rattle.session_lines.specs.Steps.{files_of, with_files};
+ghost use Rattle.release_lines.specs.Ends.{ended_by, lent, said_of, ended_step};
 
+use file_table::VF;
+use refusals::Refusal;
 use release::{Ended, release, release_all};
 use session_lines::session::{Said, Session, Step, Table, bad, can_lend};
 use sessions::mode::on_bus_reset;
 use sessions::poll::poll;
 use state::w::W;
 
-// With the clock and whether the drive is mounted, and with whether it is a reset.
+// With the clock and whether the drive is mounted, and with whether it is a reset. The contracts speak of a call as a value.
 #[derive(Clone, Copy)]
 pub enum Call {
     Poll(u64, bool),
@@ -21,59 +24,45 @@ pub enum Call {
 
 fn ended_by(
     call: Call,
-    w: W,
-    ids: &mut [u16],
-    starts: &[u16],
-    sizes: &[u32],
+    w: &mut W,
+    files: &mut [VF],
     fat: &[u16],
     area: &[u8],
-) -> Ended
-    ensures number { result.no ≡ (ended_by call (lending fat.now area.now ids.old starts.now sizes.now) w).number }
-    ensures ended { result.ended ≡ (ended_by call (lending fat.now area.now ids.old starts.now sizes.now) w).ended }
-    ensures had { result.had ≡ (ended_by call (lending fat.now area.now ids.old starts.now sizes.now) w).had }
-    ensures state { result.w ≡ (ended_by call (lending fat.now area.now ids.old starts.now sizes.now) w).w }
-    ensures table { ids.new ≡ (ended_by call (lending fat.now area.now ids.old starts.now sizes.now) w).ids }
+) -> Result<Ended, Refusal>
+    ensures { EndsBy (ended_by call) fat.now area.now w.old files.old (answered result) w.new files.new }
 {
     match call {
-        Call::Poll(clock, mounted) => poll(w, ids, starts, sizes, fat, area, clock, mounted),
-        Call::Release => release(w, ids, starts, sizes, fat, area),
-        Call::ReleaseAll(reset) => release_all(w, ids, starts, sizes, fat, area, reset),
-        Call::BusReset => on_bus_reset(w, ids, starts, sizes, fat, area),
+        Call::Poll(clock, mounted) => poll(w, files, fat, area, clock, mounted),
+        Call::Release => release(w, files, fat, area),
+        Call::ReleaseAll(reset) => release_all(w, files, fat, area, reset),
+        Call::BusReset => on_bus_reset(w, files, fat, area),
     }
 }
 
-#[derive(Clone, Copy)]
-struct Ran {
-    no: u8,
-    ended: u8,
-    had: bool,
-    w: W,
-    t: Table,
-}
-
 // The call, with the table's rows lent.
-fn on_table(call: Call, t: Table, w: W, fat: &[u16], area: &[u8]) -> Ran
-    requires { t.n ≤ 401 }
-    ensures number { result.no ≡ (ended_by call (lent t fat.now area.now) w).number }
-    ensures ended { result.ended ≡ (ended_by call (lent t fat.now area.now) w).ended }
-    ensures had { result.had ≡ (ended_by call (lent t fat.now area.now) w).had }
-    ensures state { result.w ≡ (ended_by call (lent t fat.now area.now) w).w }
-    ensures table { result.t ≡ with_ids t (ended_by call (lent t fat.now area.now) w).ids }
+fn on_table(
+    call: Call,
+    t: &mut Table,
+    w: &mut W,
+    fat: &[u16],
+    area: &[u8],
+) -> Result<Ended, Refusal>
+    requires { t.old.n ≤ 401 }
+    ensures answer { answered result ≡ end_answer (ended_by call (lent t.old fat.now area.now) w.old) }
+    ensures state { w.new ≡ (ended_by call (lent t.old fat.now area.now) w.old).w }
+    ensures table { t.new ≡ with_files t.old (with_ids (files_of t.old) (ended_by call (lent t.old fat.now area.now) w.old).ids) }
 {
     let n = t.n;
-    let mut ids = t.ids;
-    let starts = t.starts;
-    let sizes = t.sizes;
-    let o = ended_by(call, w, &mut ids[..n], &starts[..n], &sizes[..n], fat, area);
-    let mut after = t;
-    after.ids = ids;
-    let kept = o.w;
-    Ran {
-        no: o.no,
-        ended: o.ended,
-        had: o.had,
-        w: kept,
-        t: after,
+    ended_by(call, w, &mut t.files[..n], fat, area)
+}
+
+// What the line says of it, by numbers as they are printed.
+fn said(r: Result<Ended, Refusal>) -> Said
+    ensures { result ≡ said_of (answered r) }
+{
+    match r {
+        Ok(e) => Said::Ended(0, e.ending.number(), e.had),
+        Err(e) => Said::Ended(e.number(), 0, false),
     }
 }
 
@@ -86,13 +75,11 @@ pub fn run(s: Session, call: Call, fat: &[u16], area: &[u8]) -> Step
     if !can_lend(s, fat, area) {
         return bad(s);
     }
-    let o = on_table(call, s.t, s.w, &fat[..entries], &area[..bytes]);
-    let w = o.w;
-    let t = o.t;
-    let m = s.m;
-    let after = Session { w: w, t: t, m: m };
+    let mut w = s.w;
+    let mut t = s.t;
+    let r = on_table(call, &mut t, &mut w, &fat[..entries], &area[..bytes]);
     Step {
-        said: Said::Ended(o.no, o.ended, o.had),
-        s: after,
+        said: said(r),
+        s: Session { w, t, ..s },
     }
 }

@@ -1,5 +1,6 @@
 -- What a line leaves, and what a call is lent of a session.
 use Rattle.std.specs.Prelude.{ℕ, Bool, ◌&&◌, List, ◌++◌, leb, length, take, drop}
+use Rattle.file_table.specs.declared.VF.{VF}
 use Rattle.state.specs.declared.w.W.{W}
 use Rattle.session_lines.specs.declared.session.Table.{Table}
 use Rattle.session_lines.specs.declared.session.Medium.{Medium}
@@ -20,22 +21,13 @@ bad_step s = step_of Bad s
 abbrev pub silent_step : Session → Step
 silent_step s = step_of Nothing s
 
--- the rows that count, of each column
-abbrev pub ids_of : Table → List ℕ
-ids_of t = take t.n t.ids
+-- the rows that count
+abbrev pub files_of : Table → List VF
+files_of t = take t.n t.files
 
-abbrev pub slots_of : Table → List ℕ
-slots_of t = take t.n t.slots
-
-abbrev pub starts_of : Table → List ℕ
-starts_of t = take t.n t.starts
-
-abbrev pub sizes_of : Table → List ℕ
-sizes_of t = take t.n t.sizes
-
--- the table with other ids in these rows
-abbrev pub with_ids : Table → List ℕ → Table
-with_ids t ids = record { n = t.n; ids = ids ++ drop t.n t.ids; slots = t.slots; starts = t.starts; sizes = t.sizes }
+-- the table with other files in these rows
+abbrev pub with_files : Table → List VF → Table
+with_files t files = record { n = t.n; files = files ++ drop t.n t.files }
 
 -- a line's rows, and a medium that the program has
 abbrev pub max_rows : ℕ

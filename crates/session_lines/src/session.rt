@@ -3,19 +3,17 @@ ghost use Rattle.std.specs.Prelude.{◌≡◌};
 ghost use Rattle.state.specs.State.{initial};
 ghost use Rattle.session_lines.specs.Steps.{bad_step, silent_step, session_of, lends};
 
+use file_table::VF;
 use state::w::{W, initial_state};
 
 // Rows of a line at most: one more than a table has files.
 pub const ROWS: usize = 401;
 
-// The file table by columns: the first `n` rows count.
+// The file table: the first `n` rows count. A vector would make each step fail where memory runs out.
 #[derive(Clone, Copy)]
 pub struct Table {
     pub n: usize,
-    pub ids: [u16; ROWS],
-    pub slots: [u16; ROWS],
-    pub starts: [u16; ROWS],
-    pub sizes: [u32; ROWS],
+    pub files: [VF; ROWS],
 }
 
 // The medium: how many entries and bytes of what the program lends it has, and how many of these a call is lent.
@@ -53,12 +51,17 @@ pub struct Step {
 pub fn no_files() -> Table
     ensures { result.n ≡ 0 }
 {
+    let none = VF {
+        id: 0,
+        slot: 0,
+        vstart: 0,
+        src: 0,
+        ssize: 0,
+        vsize: 0,
+    };
     Table {
         n: 0,
-        ids: [0u16; ROWS],
-        slots: [0u16; ROWS],
-        starts: [0u16; ROWS],
-        sizes: [0u32; ROWS],
+        files: [none; ROWS],
     }
 }
 
@@ -66,24 +69,22 @@ pub fn no_files() -> Table
 pub fn fresh() -> Session
     ensures { (result.w ≡ initial 7) × (result.t.n ≡ 0) }
 {
-    let w = initial_state(7);
-    let t = no_files();
-    let m = Medium {
-        entries: 0,
-        bytes: 0,
-        lent_entries: 0,
-        lent_bytes: 0,
-    };
-    Session { w: w, t: t, m: m }
+    Session {
+        w: initial_state(7),
+        t: no_files(),
+        m: Medium {
+            entries: 0,
+            bytes: 0,
+            lent_entries: 0,
+            lent_bytes: 0,
+        },
+    }
 }
 
 pub fn bad(s: Session) -> Step
     ensures { result ≡ bad_step s }
 {
-    Step {
-        said: Said::Bad,
-        s: s,
-    }
+    Step { said: Said::Bad, s }
 }
 
 pub fn silent(s: Session) -> Step
@@ -91,35 +92,25 @@ pub fn silent(s: Session) -> Step
 {
     Step {
         said: Said::Nothing,
-        s: s,
+        s,
     }
 }
 
 pub fn with_state(s: Session, w: W) -> Step
     ensures { result ≡ silent_step (session_of w s.t s.m) }
 {
-    let t = s.t;
-    let m = s.m;
-    silent(Session { w: w, t: t, m: m })
+    silent(Session { w, ..s })
 }
 
 pub fn with_medium(s: Session, m: Medium) -> Step
     ensures { result ≡ silent_step (session_of s.w s.t m) }
 {
-    let w = s.w;
-    let t = s.t;
-    silent(Session { w: w, t: t, m: m })
+    silent(Session { m, ..s })
 }
 
 // Has the program all that a call is lent.
 pub fn can_lend(s: Session, fat: &[u16], area: &[u8]) -> bool
     ensures { result ≡ lends s fat.now area.now }
 {
-    if ROWS < s.t.n {
-        return false;
-    }
-    if fat.len() < s.m.lent_entries {
-        return false;
-    }
-    s.m.lent_bytes <= area.len()
+    s.t.n <= ROWS && s.m.lent_entries <= fat.len() && s.m.lent_bytes <= area.len()
 }

@@ -1,88 +1,74 @@
 // The lines that set the state directly, for corners that no call reaches.
-use lines::digits::{Read, from, hex_bytes, number, whole};
+use lines::digits::{Read, hex_bytes, number, whole};
 use records::Rec;
-use session_lines::session::{Session, Step, bad, with_state};
+use session_lines::session::{Session, Step, with_state};
 use state::w::{BPC, Pair, St};
 
 // `pair I C V`
-pub fn pair(s: Session, line: &[u8], at: usize) -> Step {
-    let i = number(line, from(at), b' ', 39);
-    let c = number(line, i, b' ', 65535);
-    let v = number(line, c, b' ', 65535);
+pub fn pair(s: Session, line: &[u8], at: usize) -> Option<Step> {
+    let i = number(line, at, b' ', 39)?;
+    let c = number(line, i.next, b' ', 65535)?;
+    let v = number(line, c.next, b' ', 65535)?;
     if !whole(line, v) {
-        return bad(s);
+        return None;
     }
     let mut w = s.w;
-    let place = i.value as usize;
-    w.pair[place] = Pair {
+    w.pair[i.value as usize] = Pair {
         c: c.value as u16,
         v: v.value as u16,
     };
-    with_state(s, w)
+    Some(with_state(s, w))
 }
 
-#[derive(Clone, Copy)]
-struct HeldBlocks {
-    read: Read,
-    blk: [u16; BPC],
-}
-
-fn blocks(line: &[u8], r: Read) -> HeldBlocks {
-    let mut read = r;
-    let mut blk = [0u16; BPC];
-    let mut j = 0;
-    while j < BPC {
-        read = number(line, read, b' ', 65535);
-        blk[j] = read.value as u16;
-        j += 1;
+// A number for each block.
+fn blocks(line: &[u8], from: usize, blk: &mut [u16; BPC]) -> Option<Read> {
+    let mut read = Read {
+        value: 0,
+        next: from,
+    };
+    for b in blk.iter_mut() {
+        read = number(line, read.next, b' ', 65535)?;
+        *b = read.value as u16;
     }
-    HeldBlocks {
-        read: read,
-        blk: blk,
-    }
+    Some(read)
 }
 
 // `slot I C SEALED RO MAP B0 .. B7`
-pub fn slot(s: Session, line: &[u8], at: usize) -> Step {
-    let i = number(line, from(at), b' ', 27);
-    let c = number(line, i, b' ', 65535);
-    let sealed = number(line, c, b' ', 1);
-    let ro = number(line, sealed, b' ', 255);
-    let map = number(line, ro, b' ', 18446744073709551615);
-    let b = blocks(line, map);
-    if !whole(line, b.read) {
-        return bad(s);
+pub fn slot(s: Session, line: &[u8], at: usize) -> Option<Step> {
+    let i = number(line, at, b' ', 27)?;
+    let c = number(line, i.next, b' ', 65535)?;
+    let sealed = number(line, c.next, b' ', 1)?;
+    let ro = number(line, sealed.next, b' ', 255)?;
+    let map = number(line, ro.next, b' ', 18446744073709551615)?;
+    let mut blk = [0u16; BPC];
+    let last = blocks(line, map.next, &mut blk)?;
+    if !whole(line, last) {
+        return None;
     }
-    let blk = b.blk;
     let mut w = s.w;
-    let place = i.value as usize;
-    w.st[place] = St {
+    w.st[i.value as usize] = St {
         c: c.value as u16,
         sealed: sealed.value == 1,
         ro: ro.value as u8,
         map: map.value,
-        blk: blk,
+        blk,
     };
-    with_state(s, w)
+    Some(with_state(s, w))
 }
 
 // `rec I SLOT HEX`
-pub fn rec(s: Session, line: &[u8], at: usize) -> Step {
-    let i = number(line, from(at), b' ', 9);
-    let slot = number(line, i, b' ', 65535);
+pub fn rec(s: Session, line: &[u8], at: usize) -> Option<Step> {
+    let i = number(line, at, b' ', 9)?;
+    let slot = number(line, i.next, b' ', 65535)?;
     let mut e = [0u8; 32];
-    let b = hex_bytes(line, slot, &mut e, 0);
-    if !whole(line, b) {
-        return bad(s);
-    }
-    if b.value != 32 {
-        return bad(s);
+    let b = hex_bytes(line, slot.next, &mut e, 0)?;
+    if !whole(line, b) || b.value != 32 {
+        return None;
     }
     let mut w = s.w;
-    let place = i.value as usize;
-    w.rec[place] = Rec {
+    w.rec[i.value as usize] = Rec {
         slot: slot.value as u16,
-        e: e,
+        e,
     };
-    with_state(s, w)
+    Some(with_state(s, w))
 }

@@ -3,32 +3,34 @@ ghost use Rattle.std.specs.Prelude.{◌≡◌, not};
 ghost use Rattle.session_lines.specs.Steps.{silent_step, session_of};
 ghost use Rattle.sessions.specs.Sessions.{set_read_only, mode_reset};
 
-use lines::digits::{from, number, whole};
-use session_lines::session::{Session, Step, bad, with_state};
-use sessions::mode::mode_reset;
+use lines::digits::{number, whole};
+use session_lines::session::{Session, Step, with_state};
+use sessions::mode;
 
 // The read-only drive is asked for, or the one that can be written.
 fn ask(s: Session, on: bool) -> Step
     ensures { result ≡ silent_step (session_of (set_read_only s.w on) s.t s.m) }
 {
-    let w = sessions::mode::set_read_only(s.w, on);
+    let mut w = s.w;
+    mode::set_read_only(&mut w, on);
     with_state(s, w)
 }
 
 // `set_read_only 0|1`
-pub fn set_read_only(s: Session, line: &[u8], at: usize) -> Step {
-    let on = number(line, from(at), b' ', 1);
+pub fn set_read_only(s: Session, line: &[u8], at: usize) -> Option<Step> {
+    let on = number(line, at, b' ', 1)?;
     if !whole(line, on) {
-        return bad(s);
+        return None;
     }
-    ask(s, on.value == 1)
+    Some(ask(s, on.value == 1))
 }
 
 // `bus_reset_w`: vwrite's bus reset.
 pub fn bus_reset_w(s: Session) -> Step
     ensures { result ≡ silent_step (session_of (mode_reset s.w) s.t s.m) }
 {
-    let w = mode_reset(s.w);
+    let mut w = s.w;
+    mode::mode_reset(&mut w);
     with_state(s, w)
 }
 
@@ -36,16 +38,18 @@ pub fn bus_reset_w(s: Session) -> Step
 fn switch(s: Session, writable: bool) -> Step
     ensures { result ≡ silent_step (session_of (mode_reset (set_read_only s.w (not writable))) s.t s.m) }
 {
-    let asked = sessions::mode::set_read_only(s.w, !writable);
-    let w = mode_reset(asked);
+    let mut asked = s.w;
+    mode::set_read_only(&mut asked, !writable);
+    let mut w = asked;
+    mode::mode_reset(&mut w);
     with_state(s, w)
 }
 
 // `rw 0|1`
-pub fn rw(s: Session, line: &[u8], at: usize) -> Step {
-    let on = number(line, from(at), b' ', 1);
+pub fn rw(s: Session, line: &[u8], at: usize) -> Option<Step> {
+    let on = number(line, at, b' ', 1)?;
     if !whole(line, on) {
-        return bad(s);
+        return None;
     }
-    switch(s, on.value == 1)
+    Some(switch(s, on.value == 1))
 }

@@ -1,16 +1,17 @@
 -- A start by its number, and a report by its parts.
-use Rattle.std.specs.Prelude.{ℕ}
+use Rattle.std.specs.Prelude.{ℕ, map}
 use Rattle.std.proofs.Math.Path.{◌≡◌}
 use Rattle.std.proofs.Common.{sym, ◌∙◌}
 use native.Mathlib.Omega.{arith}
 use Rattle.loops.specs.Choices.{either}
 use Rattle.file_table.specs.Table.{accepts}
+use Rattle.file_table.specs.Files.{id_of, with_ids}
 use Rattle.state.specs.declared.w.W.{W}
 use Rattle.sessions.specs.Sessions.{start, report_gone}
 use Rattle.session_lines.specs.declared.session.Table.{Table}
 use Rattle.session_lines.specs.declared.session.Session.{Session}
 use Rattle.session_lines.specs.declared.session.Said.TheVariants.{Number}
-use Rattle.session_lines.specs.Steps.{session_of, step_of, ids_of, with_ids}
+use Rattle.session_lines.specs.Steps.{session_of, step_of, files_of, with_files}
 use Rattle.table_lines.specs.Rows.{lent, start_step, gone_step}
 
 module _ (s : Session) (t : Table) (first number : ℕ) (w : W) (a : number ≡ (start (lent t first) s.w).number) (v : w ≡ (start (lent t first) s.w).w) where
@@ -31,7 +32,7 @@ module _ (s : Session) (t : Table) (first number : ℕ) (w : W) (a : number ≡ 
       ten : ◌≡◌ {A = ℕ} 0 10 → ⊥
       ten q = omega arith
 
-pub step-gone : (s : Session) (row number : ℕ) (t : Table) → number ≡ (report_gone (ids_of s.t) row).number
-    → t ≡ with_ids s.t (report_gone (ids_of s.t) row).ids
+pub step-gone : (s : Session) (row number : ℕ) (t : Table) → number ≡ (report_gone (map id_of (files_of s.t)) row).number
+    → t ≡ with_files s.t (with_ids (files_of s.t) (report_gone (map id_of (files_of s.t)) row).ids)
     → step_of (Number number) (session_of s.w t s.m) ≡ gone_step s row
 step-gone s row number t a i = rw (a, i)

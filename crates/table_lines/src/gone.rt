@@ -1,55 +1,42 @@
 // `gone ROW`
-ghost use Rattle.std.specs.Prelude.{◌≡◌, ◌≤◌};
-ghost use Rattle.session_lines.specs.Steps.{ids_of, with_ids};
+ghost use Rattle.std.specs.Prelude.{◌≡◌, ◌≤◌, map};
+ghost use Rattle.file_table.specs.Files.{id_of, with_ids};
+ghost use Rattle.refusals.specs.Refusals.{told};
+ghost use Rattle.session_lines.specs.Steps.{files_of, with_files};
 ghost use Rattle.sessions.specs.Sessions.{report_gone};
 ghost use Rattle.table_lines.specs.Rows.{gone_step};
 
-use lines::digits::{from, number, whole};
-use session_lines::session::{ROWS, Said, Session, Step, Table, bad};
+use lines::digits::{number, whole};
+use refusals::Refusal;
+use session_lines::session::{ROWS, Said, Session, Step, Table};
 use sessions::gone::report_gone;
 
-#[derive(Clone, Copy)]
-struct Reported {
-    no: u8,
-    t: Table,
-}
-
 // The report, with the table's rows lent.
-fn on_table(t: Table, row: usize) -> Reported
-    requires { t.n ≤ 401 }
-    ensures number { result.no ≡ (report_gone (ids_of t) row).number }
-    ensures table { result.t ≡ with_ids t (report_gone (ids_of t) row).ids }
+fn on_table(t: &mut Table, row: usize) -> Result<(), Refusal>
+    requires { t.old.n ≤ 401 }
+    ensures number { told result ≡ (report_gone (map id_of (files_of t.old)) row).number }
+    ensures table { t.new ≡ with_files t.old (with_ids (files_of t.old) (report_gone (map id_of (files_of t.old)) row).ids) }
 {
     let n = t.n;
-    let mut ids = t.ids;
-    let no = report_gone(&mut ids[..n], row);
-    let mut after = t;
-    after.ids = ids;
-    Reported { no: no, t: after }
+    report_gone(&mut t.files[..n], row)
 }
 
 fn report(s: Session, row: usize) -> Step
     requires { s.t.n ≤ 401 }
     ensures { result ≡ gone_step s row }
 {
-    let o = on_table(s.t, row);
-    let w = s.w;
-    let t = o.t;
-    let m = s.m;
-    let after = Session { w: w, t: t, m: m };
+    let mut t = s.t;
+    let r = on_table(&mut t, row);
     Step {
-        said: Said::Number(o.no),
-        s: after,
+        said: Said::Number(refusals::told(r)),
+        s: Session { t, ..s },
     }
 }
 
-pub fn gone(s: Session, line: &[u8], at: usize) -> Step {
-    let row = number(line, from(at), b' ', 18446744073709551615);
-    if !whole(line, row) {
-        return bad(s);
+pub fn gone(s: Session, line: &[u8], at: usize) -> Option<Step> {
+    let row = number(line, at, b' ', 18446744073709551615)?;
+    if !whole(line, row) || ROWS < s.t.n {
+        return None;
     }
-    if ROWS < s.t.n {
-        return bad(s);
-    }
-    report(s, row.value as usize)
+    Some(report(s, row.value as usize))
 }

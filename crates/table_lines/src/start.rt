@@ -1,94 +1,80 @@
 // `start FIRST ROW ROW ..`: the table is taken if a start takes it, and the state set anew.
-ghost use Rattle.std.specs.Prelude.{◌≡◌, true, ◌<◌, ◌≤◌};
-ghost use Rattle.sessions.specs.Sessions.{start as started};
+ghost use Rattle.std.specs.Prelude.{◌≡◌, IfSome, ◌<◌, ◌≤◌};
+ghost use Rattle.refusals.specs.Refusals.{told};
+ghost use Rattle.sessions.specs.Calls.{StartsBy};
 ghost use Rattle.table_lines.specs.Rows.{lent, start_step};
 
-use lines::digits::{Read, from, number};
-use session_lines::session::{ROWS, Said, Session, Step, Table, bad, no_files};
-use state::w::{Answer, W};
+use file_table::VF;
+use lines::digits::number;
+use refusals::Refusal;
+use session_lines::session::{ROWS, Said, Session, Step, Table, no_files};
+use state::w::W;
 
+// A row's file, and where the next row begins.
 #[derive(Clone, Copy)]
 struct File {
-    read: Read,
-    id: u16,
-    slot: u16,
-    start: u16,
-    size: u32,
+    file: VF,
+    next: usize,
 }
 
-// A row: id:slot:vstart:src:ssize:vsize. What the file is made from is not kept.
-fn row(line: &[u8], at: usize) -> File
-    ensures { result.read.ok ≡ true → at < result.read.next }
+// A row: id:slot:vstart:src:ssize:vsize.
+fn row(line: &[u8], at: usize) -> Option<File>
+    ensures { IfSome result (λ r. at < r.next) }
 {
-    let id = number(line, from(at), b':', 65535);
-    let slot = number(line, id, b':', 65535);
-    let start = number(line, slot, b':', 65535);
-    let src = number(line, start, b':', 65535);
-    let ssize = number(line, src, b':', 4294967295);
-    let size = number(line, ssize, b' ', 4294967295);
-    File {
-        read: size,
+    let id = number(line, at, b':', 65535)?;
+    let slot = number(line, id.next, b':', 65535)?;
+    let start = number(line, slot.next, b':', 65535)?;
+    let src = number(line, start.next, b':', 65535)?;
+    let ssize = number(line, src.next, b':', 4294967295)?;
+    let size = number(line, ssize.next, b' ', 4294967295)?;
+    let file = VF {
         id: id.value as u16,
         slot: slot.value as u16,
-        start: start.value as u16,
-        size: size.value as u32,
-    }
+        vstart: start.value as u16,
+        src: src.value as u16,
+        ssize: ssize.value as u32,
+        vsize: size.value as u32,
+    };
+    Some(File {
+        file,
+        next: size.next,
+    })
 }
 
-fn with_row(t: Table, r: File) -> Table
-    ensures { t.n ≤ 401 → result.n ≤ 401 }
+// The table with one more row, if it has place for it.
+fn with_row(mut t: Table, r: File) -> Option<Table>
+    ensures { IfSome result (λ u. u.n ≤ 401) }
 {
     let n = t.n;
     if ROWS <= n {
-        return t;
+        return None;
     }
-    let mut out = t;
-    out.ids[n] = r.id;
-    out.slots[n] = r.slot;
-    out.starts[n] = r.start;
-    out.sizes[n] = r.size;
-    out.n = n + 1;
-    out
+    t.files[n] = r.file;
+    t.n = n + 1;
+    Some(t)
 }
 
-#[derive(Clone, Copy)]
-struct Files {
-    ok: bool,
-    t: Table,
-}
-
-fn rows(line: &[u8], from: usize) -> Files
-    ensures { result.t.n ≤ 401 }
+fn rows(line: &[u8], from: usize) -> Option<Table>
+    ensures { IfSome result (λ t. t.n ≤ 401) }
 {
     let mut t = no_files();
     let mut at = from;
+    // A row takes a byte or more, so no range goes over the places.
     while at < line.len() {
-        let r = row(line, at);
-        let read = r.read;
-        if !read.ok {
-            return Files { ok: false, t: t };
-        }
-        if ROWS <= t.n {
-            return Files { ok: false, t: t };
-        }
-        t = with_row(t, r);
-        at = read.next;
+        let r = row(line, at)?;
+        t = with_row(t, r)?;
+        at = r.next;
     }
-    Files { ok: true, t: t }
+    Some(t)
 }
 
 // The start, with the table's rows lent.
-fn on_table(w: W, t: Table, first: u32) -> Answer
+fn on_table(w: &mut W, t: Table, first: u32) -> Result<(), Refusal>
     requires { t.n ≤ 401 }
-    ensures number { result.no ≡ (started (lent t first) w).number }
-    ensures state { result.w ≡ (started (lent t first) w).w }
+    ensures { StartsBy (lent t first) w.old (told result) w.new }
 {
     let n = t.n;
-    let ids = t.ids;
-    let slots = t.slots;
-    let starts = t.starts;
-    let sizes = t.sizes;
-    sessions::start::start(w, &ids[..n], &slots[..n], &starts[..n], &sizes[..n], first)
+    sessions::start::start(w, &t.files[..n], first)
 }
 
 // Refused, the old table and state go on.
@@ -96,34 +82,21 @@ fn begin(s: Session, t: Table, first: u32) -> Step
     requires { t.n ≤ 401 }
     ensures { result ≡ start_step s t first }
 {
-    let o = on_table(s.w, t, first);
-    let w = o.w;
-    let m = s.m;
-    if o.no != 0 {
-        let old = s.t;
-        let refused = Session { w: w, t: old, m: m };
-        return Step {
-            said: Said::Number(o.no),
-            s: refused,
-        };
-    }
-    let taken = Session { w: w, t: t, m: m };
-    Step {
-        said: Said::Number(o.no),
-        s: taken,
+    let mut w = s.w;
+    match on_table(&mut w, t, first) {
+        Ok(_) => Step {
+            said: Said::Number(0),
+            s: Session { w, t, ..s },
+        },
+        Err(e) => Step {
+            said: Said::Number(e.number()),
+            s: Session { w, ..s },
+        },
     }
 }
 
-pub fn start(s: Session, line: &[u8], at: usize) -> Step {
-    let f = number(line, from(at), b' ', 4294967295);
-    if !f.ok {
-        return bad(s);
-    }
-    let first = f.value as u32;
-    let read = rows(line, f.next);
-    if !read.ok {
-        return bad(s);
-    }
-    let t = read.t;
-    begin(s, t, first)
+pub fn start(s: Session, line: &[u8], at: usize) -> Option<Step> {
+    let first = number(line, at, b' ', 4294967295)?;
+    let t = rows(line, first.next)?;
+    Some(begin(s, t, first.value as u32))
 }

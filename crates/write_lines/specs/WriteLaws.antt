@@ -1,10 +1,11 @@
 -- A step by its parts.
 use Rattle.std.specs.Prelude.{ℕ, Bool, true, false, List, ◌++◌, ◌≡◌, drop}
+use Rattle.file_table.specs.Files.{with_ids}
 use Rattle.state.specs.declared.w.W.{W}
 use Rattle.session_lines.specs.declared.session.Table.{Table}
 use Rattle.session_lines.specs.declared.session.Session.{Session}
 use Rattle.session_lines.specs.declared.session.Said.TheVariants.{Number}
-use Rattle.session_lines.specs.Steps.{session_of, step_of, bad_step, with_ids, lends}
+use Rattle.session_lines.specs.Steps.{session_of, step_of, bad_step, files_of, with_files, lends}
 use Rattle.write_lines.specs.Writes.{left, write_step, write_area}
 
 module _ (s : Session) (place : ℕ) (g d : List ℕ) (busy : Bool) (fat area : List ℕ) where
@@ -18,7 +19,7 @@ module _ (s : Session) (place : ℕ) (g d : List ℕ) (busy : Bool) (fat area : 
 
   pub step-written : (number : ℕ) (w : W) (t : Table) → lends s fat area ≡ true
       → number ≡ (left s place g d busy fat area).number → w ≡ (left s place g d busy fat area).w
-      → t ≡ with_ids s.t (left s place g d busy fat area).ids
+      → t ≡ with_files s.t (with_ids (files_of s.t) (left s place g d busy fat area).ids)
       → step_of (Number number) (session_of w t s.m) ≡ write_step s place g d busy fat area
   unfolding write_step
   step-written number w t l a v i = rw (l, a, v, i)

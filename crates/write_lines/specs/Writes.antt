@@ -1,17 +1,19 @@
 -- What a written sector leaves of a session and of what the program lends.
 use Rattle.std.specs.Prelude.{ℕ, Bool, List, ◌++◌, take, drop}
 use Rattle.loops.specs.Loops.{pick}
-use Rattle.judge.specs.Classify.{SectorWrite, sector_write}
+use Rattle.file_table.specs.Files.{with_ids}
+use Rattle.judge.specs.Classify.{SectorWrite}
 use Rattle.write.specs.Write.{Written, write}
+use Rattle.table_calls.specs.Calls.{files_write}
 use Rattle.session_lines.specs.declared.session.Table.{Table}
 use Rattle.session_lines.specs.declared.session.Session.{Session}
 use Rattle.session_lines.specs.declared.session.Said.TheVariants.{Number}
 use Rattle.session_lines.specs.declared.session.Step.{Step}
-use Rattle.session_lines.specs.Steps.{session_of, step_of, bad_step, ids_of, slots_of, starts_of, sizes_of, with_ids, lends}
+use Rattle.session_lines.specs.Steps.{session_of, step_of, bad_step, files_of, with_files, lends}
 
 -- the sector, with the table's rows and the medium
 abbrev pub sent : Table → ℕ → List ℕ → List ℕ → Bool → List ℕ → List ℕ → SectorWrite
-sent t place g d busy fat area = sector_write place g d busy fat area (ids_of t) (slots_of t) (starts_of t) (sizes_of t)
+sent t place g d busy fat area = files_write place g d busy fat area (files_of t)
 
 -- ... of which as much is lent as the session says
 abbrev pub left : Session → ℕ → List ℕ → List ℕ → Bool → List ℕ → List ℕ → Written
@@ -22,7 +24,7 @@ write_step s place g d busy fat area =
     pick (lends s fat area)
     (step_of
     (Number (left s place g d busy fat area).number)
-    (session_of (left s place g d busy fat area).w (with_ids s.t (left s place g d busy fat area).ids) s.m))
+    (session_of (left s place g d busy fat area).w (with_files s.t (with_ids (files_of s.t) (left s place g d busy fat area).ids)) s.m))
     (bad_step s)
 
 unfoldable pub write_area : Session → ℕ → List ℕ → List ℕ → Bool → List ℕ → List ℕ → List ℕ

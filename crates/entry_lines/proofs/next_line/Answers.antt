@@ -1,10 +1,21 @@
-use borrow.Author.Tests.{not-false, not-true}
-use mathlib.Core.Path.{◌∙◌}
-use Rattle.entry_lines.specs.EntryLaws.{line-gives, line-bad, line-good}
+-- The three values are read one after another, until one can't be read.
+use Rattle.entry_lines.specs.EntryLines.{entry_line}
 use Rattle.entry_lines.proofs.next_line.Goals as goal
 
-pub returns-then-not-written : goal.returns-then-not-written
-returns-then-not-written c = let a = c.args in record { values = (line-gives a.input.now a.at c.bad_line.result (c.bad_line.ensures ∙ line-bad _ _ _ _ _ _ c.from.ensures c.number-entry.ensures.field c.number-shown.ensures.field c.number-written.ensures.field ((not-true _ c.if-not-written.true)))).0; onward = (line-gives a.input.now a.at c.bad_line.result (c.bad_line.ensures ∙ line-bad _ _ _ _ _ _ c.from.ensures c.number-entry.ensures.field c.number-shown.ensures.field c.number-written.ensures.field ((not-true _ c.if-not-written.true)))).1 }
+pub returns-in_err-entry-clause-values : goal.returns-in_err-entry-clause-values
+unfolding entry_line
+returns-in_err-entry-clause-values c = rw (c.from_residual.ensures, ← c.in_err-entry.ensures.field)
 
-pub returns : goal.returns
-returns c = let a = c.args in record { values = (line-gives a.input.now a.at _ (line-good _ _ _ _ _ _ c.from.ensures c.number-entry.ensures.field c.number-shown.ensures.field c.number-written.ensures.field ((not-false _ c.if-not-written.false)))).0; onward = (line-gives a.input.now a.at _ (line-good _ _ _ _ _ _ c.from.ensures c.number-entry.ensures.field c.number-shown.ensures.field c.number-written.ensures.field ((not-false _ c.if-not-written.false)))).1 }
+pub returns-in_err-shown-clause-values : goal.returns-in_err-shown-clause-values
+unfolding entry_line
+returns-in_err-shown-clause-values c =
+    rw (c.from_residual-in_err-shown.ensures, ← c.in_ok-entry.ensures.field, ← c.in_err-shown.ensures.field)
+
+pub returns-in_err-written-clause-values : goal.returns-in_err-written-clause-values
+unfolding entry_line
+returns-in_err-written-clause-values c =
+    rw (c.from_residual-in_err-written.ensures, ← c.in_ok-entry.ensures.field, ← c.in_ok-shown.ensures.field, ← c.in_err-written.ensures.field)
+
+pub returns-clause-values : goal.returns-clause-values
+unfolding entry_line
+returns-clause-values c = rw (← c.in_ok-entry.ensures.field, ← c.in_ok-shown.ensures.field, ← c.in_ok-written.ensures.field)

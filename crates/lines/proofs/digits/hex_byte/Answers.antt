@@ -1,30 +1,40 @@
-use Prim.Native.Nat.{◌+◌, ◌*◌}
-use mathlib.Core.Bool.{true}
-use Rattle.lines.specs.declared.digits.Read.{Read}
-use lib.ListN.{length}
-use native.Mathlib.Omega.{arith}
-use borrow.Author.Tests.{le-leb, lt-leb, lt-ltb, le-ltb}
+-- Both digits stand in the line, or one of them doesn't.
+use Rattle.std.proofs.Common.{ℕ, ◌≡◌, ◌+◌, ◌*◌, ◌<◌, ◌≤◌, ◌&&◌, List, Some, None, length, get_or, ltb, arith, le-leb, le-ltb, lt-ltb}
+use Rattle.std.proofs.lemmas.Bool.{lt-leb}
+use Rattle.loops.specs.Loops.{pick}
 use Rattle.loops.specs.Choices.{and-no}
-use Rattle.lines.specs.Digits.{byte_at}
-use Rattle.lines.specs.DigitLaws.{byte-gives}
+use Rattle.lines.specs.Digits.{hex_digit, byte_at}
 use Rattle.lines.proofs.digits.hex_byte.Goals as goal
+use Rattle.lines.proofs.digits.hex_byte.Goals.{then-high-ge16-via-then-high-ge16, then-high-ge16-via-else-high-ge16+then-low-ge16}
 
-pub returns-then-line-lt2 : goal.returns-then-line-lt2
+short : (line : List ℕ) (at : ℕ) → length line ≤ at + 1 → None ≡ byte_at line at
 unfolding byte_at
-returns-then-line-lt2 c = let a = c.args in record { byte = (byte-gives a.line.now a.at c.failed.result (simp (c.failed.ensures, lt-leb (a.at + 2) (length a.line.now) (omega arith)))).0; bound = (byte-gives a.line.now a.at c.failed.result (simp (c.failed.ensures, lt-leb (a.at + 2) (length a.line.now) (omega arith)))).1.0; onward = (byte-gives a.line.now a.at c.failed.result (simp (c.failed.ensures, lt-leb (a.at + 2) (length a.line.now) (omega arith)))).1.1 }
+short line at h = rw (lt-leb (at + 2) (length line) (omega arith))
 
-pub returns-then-line-at : goal.returns-then-line-at
+digits : (line : List ℕ) (at a b high low : ℕ) → at + 1 < length line → a ≡ get_or line at 0 → b ≡ get_or line (at + 1) 0
+    → high ≡ hex_digit a → low ≡ hex_digit b → pick (ltb high 16 && ltb low 16) (Some (high * 16 + low)) None ≡ byte_at line at
 unfolding byte_at
-returns-then-line-at c = let a = c.args in record { byte = (byte-gives a.line.now a.at c.failed-then-line-at.result (simp (c.failed-then-line-at.ensures, lt-leb (a.at + 2) (length a.line.now) (omega arith)))).0; bound = (byte-gives a.line.now a.at c.failed-then-line-at.result (simp (c.failed-then-line-at.ensures, lt-leb (a.at + 2) (length a.line.now) (omega arith)))).1.0; onward = (byte-gives a.line.now a.at c.failed-then-line-at.result (simp (c.failed-then-line-at.ensures, lt-leb (a.at + 2) (length a.line.now) (omega arith)))).1.1 }
+digits line at a b high low h p q r s = rw (r, s, p, q, le-leb (at + 2) (length line) (omega arith))
 
-pub returns-then-high-ge16 : goal.returns-then-high-ge16
-unfolding byte_at
-returns-then-high-ge16 c = let a = c.args in record { byte = (byte-gives a.line.now a.at c.failed-then-high-ge16.result (simp (c.failed-then-high-ge16.ensures, le-leb (a.at + 2) (length a.line.now) (omega arith), ← c.hex_digit-high.ensures, le-ltb _ _ c.if-high-ge16.true))).0; bound = (byte-gives a.line.now a.at c.failed-then-high-ge16.result (simp (c.failed-then-high-ge16.ensures, le-leb (a.at + 2) (length a.line.now) (omega arith), ← c.hex_digit-high.ensures, le-ltb _ _ c.if-high-ge16.true))).1.0; onward = (byte-gives a.line.now a.at c.failed-then-high-ge16.result (simp (c.failed-then-high-ge16.ensures, le-leb (a.at + 2) (length a.line.now) (omega arith), ← c.hex_digit-high.ensures, le-ltb _ _ c.if-high-ge16.true))).1.1 }
+pub returns-in_err-get-clause-byte : goal.returns-in_err-get-clause-byte
+returns-in_err-get-clause-byte c = rw c.from_residual.ensures (short _ _ (let l = c.in_err-get.ensures.lookup.3 in omega arith))
 
-pub returns-then-low-ge16 : goal.returns-then-low-ge16
-unfolding byte_at
-returns-then-low-ge16 c = let a = c.args in record { byte = (byte-gives a.line.now a.at c.failed-then-low-ge16.result (simp (c.failed-then-low-ge16.ensures, ← c.hex_digit-low.ensures, le-ltb _ _ c.if-low-ge16.true, and-no))).0; bound = (byte-gives a.line.now a.at c.failed-then-low-ge16.result (simp (c.failed-then-low-ge16.ensures, ← c.hex_digit-low.ensures, le-ltb _ _ c.if-low-ge16.true, and-no))).1.0; onward = (byte-gives a.line.now a.at c.failed-then-low-ge16.result (simp (c.failed-then-low-ge16.ensures, ← c.hex_digit-low.ensures, le-ltb _ _ c.if-low-ge16.true, and-no))).1.1 }
+pub returns-in_err-get-2-clause-byte : goal.returns-in_err-get-2-clause-byte
+returns-in_err-get-2-clause-byte c = rw c.from_residual-in_err-get-2.ensures (short _ _ c.in_err-get-2.ensures.lookup.3)
 
-pub returns : goal.returns
-unfolding byte_at
-returns c = let a = c.args in let v : Read = record { ok = true; value = c.hex_digit-high.result * 16 + c.hex_digit-low.result; next = a.at + 2 } in let b = byte-gives a.line.now a.at v (simp (le-leb (a.at + 2) (length a.line.now) (omega arith), ← c.hex_digit-high.ensures, ← c.hex_digit-low.ensures, lt-ltb _ _ c.if-high-ge16.false, lt-ltb _ _ c.if-low-ge16.false)) in record { byte = b.0; bound = b.1.0; onward = b.1.1 }
+pub returns-then-high-ge16-clause-byte : goal.returns-then-high-ge16-clause-byte
+returns-then-high-ge16-clause-byte c =
+    let a = c.in_ok-get.ensures.lookup.3 in
+    let b = c.in_ok-get-2.ensures.lookup.3 in
+    let e = digits _ _ _ _ _ _ b.0 (a.1 0) (b.1 0) c.hex_digit-high.ensures c.hex_digit-low.ensures in
+    elim c.then-high-ge16.branch [
+      | then-high-ge16-via-then-high-ge16 w ↦ rw (le-ltb _ _ w.if-high-ge16.true) at e
+      | then-high-ge16-via-else-high-ge16+then-low-ge16 w ↦ rw (and-no _ _ (le-ltb _ _ w.if-low-ge16.true)) at e
+    ]
+
+pub returns-clause-byte : goal.returns-clause-byte
+returns-clause-byte c =
+    let a = c.in_ok-get.ensures.lookup.3 in
+    let b = c.in_ok-get-2.ensures.lookup.3 in
+    let e = digits _ _ _ _ _ _ b.0 (a.1 0) (b.1 0) c.hex_digit-high.ensures c.hex_digit-low.ensures in
+    rw (lt-ltb _ _ c.if-high-ge16.false, lt-ltb _ _ c.if-low-ge16.false) at e

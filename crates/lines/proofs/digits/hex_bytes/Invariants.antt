@@ -1,6 +1,5 @@
-use Prim.Native.Nat.{◌≤◌, ◌<◌, ◌-◌}
-use mathlib.Core.Path.{◌≡◌}
-use lib.ListN.{length}
+-- a read ends in the line, once it has begun
+use Rattle.std.proofs.Common.{◌≡◌, ◌-◌, ◌≤◌, ◌<◌, length}
 use Rattle.lines.proofs.digits.hex_bytes.Given as goal
 
 abbrev pub invariant-loop-i : goal.invariant-loop-i

@@ -1,12 +1,16 @@
-use borrow.Author.Tests.{not-true, not-false}
+-- A field is a number and its end.
 use Rattle.lines.specs.Digits.{number_field}
-use Rattle.lines.specs.DigitLaws.{field-gives}
+use Rattle.lines.specs.DigitLaws.{number-onward, end-onward}
 use Rattle.lines.proofs.digits.number.Goals as goal
 
-pub returns-then-not-r : goal.returns-then-not-r
+pub returns-in_err-n-clause-field : goal.returns-in_err-n-clause-field
 unfolding number_field
-returns-then-not-r c = let a = c.args in record { field = (field-gives a.line.now a.r a.sep a.most c.failed.result (simp (c.failed.ensures, not-true c.args.r.ok c.if-not-r.true))).0; most = (field-gives a.line.now a.r a.sep a.most c.failed.result (simp (c.failed.ensures, not-true c.args.r.ok c.if-not-r.true))).1.0; onward = (field-gives a.line.now a.r a.sep a.most c.failed.result (simp (c.failed.ensures, not-true c.args.r.ok c.if-not-r.true))).1.1 }
+returns-in_err-n-clause-field c = rw (c.from_residual.ensures, ← c.in_err-n.ensures)
 
-pub returns : goal.returns
+pub returns-clause-field : goal.returns-clause-field
 unfolding number_field
-returns c = let a = c.args in record { field = (field-gives a.line.now a.r a.sep a.most c.field_end.result (simp (c.field_end.ensures, c.digits-n.ensures, not-false c.args.r.ok c.if-not-r.false))).0; most = (field-gives a.line.now a.r a.sep a.most c.field_end.result (simp (c.field_end.ensures, c.digits-n.ensures, not-false c.args.r.ok c.if-not-r.false))).1.0; onward = (field-gives a.line.now a.r a.sep a.most c.field_end.result (simp (c.field_end.ensures, c.digits-n.ensures, not-false c.args.r.ok c.if-not-r.false))).1.1 }
+returns-clause-field c = rw (c.field_end.ensures, ← c.in_ok-n.ensures)
+
+pub returns-clause-onward : goal.returns-clause-onward
+returns-clause-onward c =
+    rw c.field_end.ensures (end-onward _ _ _ _ _ (rw (← c.in_ok-n.ensures) at (number-onward c.args.line.now c.args.at c.args.most)))

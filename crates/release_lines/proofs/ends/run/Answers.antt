@@ -13,8 +13,10 @@ slice_bounds-on_table-end c = sym (length-take-le _ _ (lends-entries _ _ _ (sym 
 pub slice_bounds-on_table-end-2 : goal.slice_bounds-on_table-end-2
 slice_bounds-on_table-end-2 c = sym (length-take-le _ _ (lends-bytes _ _ _ (sym c.can_lend.ensures ∙ c.if-not-can_lend.false)))
 
-pub on_table-o-requires : goal.on_table-o-requires
-on_table-o-requires c = lends-rows _ _ _ (sym c.can_lend.ensures ∙ c.if-not-can_lend.false)
+pub on_table-r-requires : goal.on_table-r-requires
+on_table-r-requires c = lends-rows _ _ _ (sym c.can_lend.ensures ∙ c.if-not-can_lend.false)
 
 pub returns : goal.returns
-returns c = let e = c.on_table-o.ensures in step-ran c.args.call c.args.s _ _ _ _ _ _ _ (sym c.can_lend.ensures ∙ c.if-not-can_lend.false) e.number e.ended e.had e.state e.table
+returns c =
+    let e = c.on_table-r.ensures in
+    rw c.said.ensures (step-ran c.args.call c.args.s _ _ _ _ _ (sym c.can_lend.ensures ∙ c.if-not-can_lend.false) e.answer e.state e.table)

@@ -1,4 +1,4 @@
 use Rattle.state_lines.proofs.mode.bus_reset_w.Goals as goal
 
 pub returns : goal.returns
-returns c = rw (← c.mode_reset-w.ensures) c.with_state.ensures
+returns c = rw (← c.mode_reset.ensures) c.with_state.ensures

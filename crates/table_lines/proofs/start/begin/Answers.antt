@@ -1,8 +1,13 @@
+use Rattle.std.proofs.Math.Path.{refl}
+use Rattle.std.proofs.Common.{◌∙◌, sym}
+use Rattle.refusals.proofs.Numbers.{refused}
 use Rattle.table_lines.specs.RowLaws.{step-refused, step-taken}
 use Rattle.table_lines.proofs.start.begin.Goals as goal
 
-pub returns-then-o-ne0 : goal.returns-then-o-ne0
-returns-then-o-ne0 c = step-refused c.args.s c.args.t _ _ _ c.on_table-o.ensures.number c.on_table-o.ensures.state c.if-o-ne0.true
+pub returns-in-Ok : goal.returns-in-Ok
+returns-in-Ok c = let e = c.in-Ok.ensures in step-taken c.args.s c.args.t c.args.first 0 c.on_table.new.w e.0 e.1 refl
 
-pub returns : goal.returns
-returns c = step-taken c.args.s c.args.t _ _ _ c.on_table-o.ensures.number c.on_table-o.ensures.state c.if-o-ne0.false
+pub returns-in-Err : goal.returns-in-Err
+returns-in-Err c =
+    let e = c.in-Err.ensures in
+    step-refused c.args.s c.args.t c.args.first c.number.result c.on_table.new.w (c.number.ensures ∙ e.0) e.1 (λ z. refused c.in-Err.e (sym c.number.ensures ∙ z))

@@ -1,5 +1,5 @@
-use Prim.Native.Nat.{◌-◌, ◌≤◌}
-use lib.ListN.{length}
+-- the rows fit the table, and each takes a byte or more
+use Rattle.std.proofs.Common.{◌-◌, ◌≤◌, length}
 use Rattle.table_lines.proofs.start.rows.Given as goal
 
 abbrev pub invariant-loop-at : goal.invariant-loop-at
