@@ -5,13 +5,10 @@ ghost use Rattle.std.specs.Prelude.{◌<◌};
 fn digit(line: &[u8], i: usize) -> u64
     ensures { result < 10 }
 {
-    if line.len() <= i {
-        return 0;
+    match line.get(i) {
+        Some(c) if b'0' <= *c => ((*c - b'0') % 10) as u64,
+        _ => 0,
     }
-    if line[i] < b'0' {
-        return 0;
-    }
-    ((line[i] - b'0') % 10) as u64
 }
 
 // The number in columns `from` to `end`.

@@ -38,7 +38,5 @@ pub(crate) fn turn(area: &mut [u8], i: usize, bits: u8) {
     if area.len() != AREA {
         return;
     }
-    let at = place(i);
-    let b = area[at] ^ bits;
-    area[at] = b;
+    area[place(i)] ^= bits;
 }

@@ -19,22 +19,13 @@ use std::io::{Read, Write};
 // No more of the input is read.
 const INPUT_MOST: u64 = 65536;
 
-fn text(out: &mut Output<impl Write>, t: &[u8]) {
-    out.text(t);
-}
-
-fn number(out: &mut Output<impl Write>, n: u64) {
-    out.text(b" ");
-    out.decimal(n);
-}
-
 fn slot(c: u16, map: u64, blk: [u16; 8]) -> St {
     St {
-        c: c,
+        c,
         sealed: false,
         ro: 0,
-        map: map,
-        blk: blk,
+        map,
+        blk,
     }
 }
 
@@ -78,9 +69,9 @@ fn check(out: &mut Output<impl Write>, line: &[u8], area: &[u8]) {
         start,
         size,
     );
-    number(out, b.no as u64);
-    number(out, b.valid as u64);
-    text(out, b"\n");
+    out.number(refusals::told(b) as u64);
+    out.number((b == Ok(true)) as u64);
+    out.line_end();
 }
 
 fn show(out: &mut Output<impl Write>, line: &[u8]) {
@@ -90,7 +81,7 @@ fn show(out: &mut Output<impl Write>, line: &[u8]) {
     if line[0] == b'#' {
         return;
     }
-    text(out, &line[..28]);
+    out.text(&line[..28]);
     let mut area = [0u8; 65536];
     fill(&mut area, field(line, 39, 49), field(line, 50, 60));
     turn(
@@ -101,24 +92,21 @@ fn show(out: &mut Output<impl Write>, line: &[u8]) {
     check(out, line, &area);
 }
 
+// A line here has its newline with it; an input that ends within a line is bad.
 fn run(out: &mut Output<impl Write>, input: &[u8]) {
-    let mut at = 0;
-    while at < input.len() {
-        if input.len() - at < 92 {
-            text(out, b"bad line\n");
+    for line in input.chunks(92) {
+        if line.len() < 92 {
+            out.text(b"bad line\n");
             return;
         }
-        let end = at + 91;
-        show(out, &input[at..end]);
-        at += 92;
+        show(out, line);
     }
 }
 
 fn main(rt: HostRuntime) -> io::Result<()> {
     let mut out = Output::new(io::writer(&rt));
-    text(&mut out, b"CRC of 123456789:");
-    number(&mut out, crc::crc16_upd(0xFFFF, b"123456789") as u64);
-    text(&mut out, b"\n");
+    out.text(b"CRC of 123456789:");
+    out.answer(crc::crc16_upd(0xFFFF, b"123456789") as u64);
     let mut input = Vec::new(rt.alloc());
     let read = rt.reader().take(INPUT_MOST).read_to_end(&mut input);
     run(&mut out, &input);

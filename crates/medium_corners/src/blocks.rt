@@ -1,13 +1,11 @@
 // The medium and its blocks, and the search for a free one.
-use crate::{answer, byte, line_end, number, text};
 use printed::Output;
 use std::io::Write;
 
 fn show_medium(out: &mut Output<impl Write>, fat: &[u16], area: &[u8]) {
-    text(out, b"medium");
-    number(out, fat.len() as u64);
-    number(out, area.len() as u64);
-    answer(out, medium::blocks::is_medium(fat, area) as u64);
+    out.named(b"medium ", fat.len() as u64);
+    out.number(area.len() as u64);
+    out.answer(medium::blocks::is_medium(fat, area) as u64);
 }
 
 // The data area's first bytes, as many as each length says.
@@ -34,23 +32,22 @@ fn media(out: &mut Output<impl Write>) {
 
 // A block's first and last byte.
 fn show_part(out: &mut Output<impl Write>, part: &[u8]) {
-    number(out, part.len() as u64);
+    out.number(part.len() as u64);
     if part.len() < 4096 {
         return;
     }
-    byte(out, part[0]);
-    byte(out, part[4095]);
+    out.number(part[0] as u64);
+    out.number(part[4095] as u64);
 }
 
 fn show_block(out: &mut Output<impl Write>, fat: &[u16], area: &[u8], b: usize) {
-    text(out, b"block");
-    number(out, b as u64);
+    out.named(b"block ", b as u64);
     let has = medium::blocks::has_block(fat, area, b);
-    number(out, has as u64);
+    out.number(has as u64);
     if has {
         show_part(out, medium::blocks::block(area, b));
     }
-    line_end(out);
+    out.line_end();
 }
 
 fn blocks_of(out: &mut Output<impl Write>, fat: &[u16], area: &[u8], numbers: &[usize]) {
@@ -67,7 +64,7 @@ fn blocks(out: &mut Output<impl Write>) {
     area[4096] = 19;
     area[8191] = 20;
     blocks_of(out, &fat, &area, &[0, 1, 2, 3, 4, 65535, 4294967298]);
-    text(out, b"no medium: ");
+    out.text(b"no medium: ");
     blocks_of(out, &fat, &area[..8191], &[2]);
 }
 
@@ -76,18 +73,18 @@ fn show_free(out: &mut Output<impl Write>, fat: &[u16], hint: u32) {
         return;
     }
     let r = medium::blocks::next_free(fat, hint);
-    text(out, b"next_free");
-    number(out, fat.len() as u64);
-    number(out, hint as u64);
-    text(out, b":");
-    number(out, r.found as u64);
-    number(out, r.block as u64);
-    answer(out, r.hint as u64);
+    out.text(b"next_free");
+    out.number(fat.len() as u64);
+    out.number(hint as u64);
+    out.text(b":");
+    out.number(r.block.is_some() as u64);
+    out.number(r.block.unwrap_or(0) as u64);
+    out.answer(r.hint as u64);
 }
 
 fn free_of(out: &mut Output<impl Write>, name: &[u8], fat: &[u16], hints: &[u32]) {
     for hint in hints {
-        text(out, name);
+        out.text(name);
         show_free(out, fat, *hint);
     }
 }

@@ -1,30 +1,25 @@
 // Pairs, staging slots and records: what is found, and what setting a pair changes.
-use crate::{answer, byte, line_end, number, place, text};
+use crate::place;
 use printed::Output;
 use records::Rec;
-use state::pairs::{PairOf, set_pair};
+use state::pairs::set_pair;
 use state::w::{Pair, St, W, initial_state};
 use std::io::Write;
 
 fn staged(c: u16, map: u64) -> St {
     St {
-        c: c,
+        c,
         sealed: true,
         ro: 255,
-        map: map,
+        map,
         blk: [2u16; 8],
     }
 }
 
-fn show_value(out: &mut Output<impl Write>, p: PairOf) {
+fn show_value(out: &mut Output<impl Write>, p: Option<u16>) {
     match p {
-        PairOf::Value(v) => {
-            text(out, b" value");
-            number(out, v as u64);
-        }
-        PairOf::NoPair => {
-            text(out, b" no value");
-        }
+        Some(v) => out.named(b" value ", v as u64),
+        None => out.text(b" no value"),
     }
 }
 
@@ -32,17 +27,15 @@ fn show_value(out: &mut Output<impl Write>, p: PairOf) {
 fn show(out: &mut Output<impl Write>, name: &[u8], w: W, c: u32) {
     let pair = w.pair;
     let st = w.st;
-    text(out, name);
-    text(out, b", cluster");
-    number(out, c as u64);
-    text(out, b": pair at");
+    out.text(name);
+    out.named(b", cluster ", c as u64);
+    out.text(b": pair at");
     place(out, state::pairs::pair_idx(pair, c));
     show_value(out, state::pairs::pair_of(pair, c));
-    text(out, b" slot at");
+    out.text(b" slot at");
     place(out, state::staged::slot_of(st, c));
-    text(out, b" free");
-    number(out, state::pairs::free_pairs(pair) as u64);
-    answer(out, state::staged::free_slots(st) as u64);
+    out.named(b" free ", state::pairs::free_pairs(pair) as u64);
+    out.answer(state::staged::free_slots(st) as u64);
 }
 
 fn show_clusters(out: &mut Output<impl Write>, name: &[u8], w: W, clusters: &[u32]) {
@@ -53,16 +46,17 @@ fn show_clusters(out: &mut Output<impl Write>, name: &[u8], w: W, clusters: &[u3
 
 fn show_rec(out: &mut Output<impl Write>, name: &[u8], rec: [Rec; 10], idx: usize) {
     let r = records::root_rec(rec, idx);
-    text(out, name);
-    text(out, b", root slot");
-    number(out, idx as u64);
-    text(out, b": record at");
+    out.text(name);
+    out.text(b", root slot");
+    out.number(idx as u64);
+    out.text(b": record at");
     place(out, records::rec_idx(rec, idx));
-    text(out, b" bytes");
-    number(out, r.found as u64);
-    byte(out, r.e[0]);
-    byte(out, r.e[31]);
-    line_end(out);
+    out.text(b" bytes");
+    out.number(r.is_some() as u64);
+    let e = r.unwrap_or([0u8; 32]);
+    out.number(e[0] as u64);
+    out.number(e[31] as u64);
+    out.line_end();
 }
 
 fn show_recs(out: &mut Output<impl Write>, name: &[u8], rec: [Rec; 10], slots: &[usize]) {
@@ -76,15 +70,15 @@ fn show_free(out: &mut Output<impl Write>, name: &[u8], w: W) {
     let pair = w.pair;
     let st = w.st;
     let rec = w.rec;
-    text(out, name);
-    text(out, b", first free: pair");
+    out.text(name);
+    out.text(b", first free: pair");
     place(out, state::pairs::free_pair(pair));
-    text(out, b" slot");
+    out.text(b" slot");
     place(out, state::staged::free_slot(st));
-    text(out, b" record");
+    out.text(b" record");
     place(out, records::free_rec(rec));
-    text(out, b" of");
-    answer(out, records::free_recs(rec) as u64);
+    out.text(b" of");
+    out.answer(records::free_recs(rec) as u64);
 }
 
 fn show_state(out: &mut Output<impl Write>, name: &[u8], w: W) {
@@ -151,18 +145,16 @@ fn full() -> W {
 }
 
 fn show_pair(out: &mut Output<impl Write>, p: Pair) {
-    text(out, b"its place has");
-    number(out, p.c as u64);
-    answer(out, p.v as u64);
+    out.named(b"its place has ", p.c as u64);
+    out.answer(p.v as u64);
 }
 
 fn show_slot(out: &mut Output<impl Write>, s: St) {
-    text(out, b"dropped slot");
-    number(out, s.sealed as u64);
-    byte(out, s.ro);
-    number(out, s.map);
+    out.named(b"dropped slot ", s.sealed as u64);
+    out.number(s.ro as u64);
+    out.number(s.map);
     let b = s.blk[7];
-    answer(out, b as u64);
+    out.answer(b as u64);
 }
 
 fn set_few(out: &mut Output<impl Write>) {

@@ -6,41 +6,14 @@ mod lookups;
 mod queries;
 mod reads;
 
-use loops::Found;
 use printed::Output;
 use std::io;
 use std::io::Write;
 
-pub(crate) fn text(out: &mut Output<impl Write>, t: &[u8]) {
-    out.text(t);
-}
-
-pub(crate) fn number(out: &mut Output<impl Write>, n: u64) {
-    out.text(b" ");
-    out.decimal(n);
-}
-
-pub(crate) fn byte(out: &mut Output<impl Write>, n: u8) {
-    number(out, n as u64);
-}
-
-pub(crate) fn line_end(out: &mut Output<impl Write>) {
-    out.text(b"\n");
-}
-
-pub(crate) fn answer(out: &mut Output<impl Write>, n: u64) {
-    number(out, n);
-    line_end(out);
-}
-
-pub(crate) fn place(out: &mut Output<impl Write>, f: Found) {
+pub(crate) fn place(out: &mut Output<impl Write>, f: Option<usize>) {
     match f {
-        Found::At(i) => {
-            number(out, i as u64);
-        }
-        Found::Nothing => {
-            text(out, b" nothing");
-        }
+        Some(i) => out.number(i as u64),
+        None => out.text(b" nothing"),
     }
 }
 

@@ -1,5 +1,4 @@
 // What the mixer asks of the state.
-use crate::{answer, number, text};
 use printed::Output;
 use state::w::{W, initial_state};
 use std::io::Write;
@@ -7,23 +6,21 @@ use std::io::Write;
 fn show_fat1(out: &mut Output<impl Write>, v: u32) {
     let mut w = initial_state(8);
     w.fat1 = v;
-    text(out, b"fat1");
-    number(out, v as u64);
-    answer(out, state::queries::fat1(w) as u64);
+    out.named(b"fat1 ", v as u64);
+    out.answer(state::queries::fat1(w) as u64);
 }
 
 fn show_boot(out: &mut Output<impl Write>, v: u8) {
     let mut w = initial_state(8);
     w.boot = v;
-    text(out, b"boot_state");
-    number(out, v as u64);
-    answer(out, state::queries::boot_state(w) as u64);
+    out.named(b"boot_state ", v as u64);
+    out.answer(state::queries::boot_state(w) as u64);
 }
 
 fn show_frozen(out: &mut Output<impl Write>, name: &[u8], w: W, mounted: bool) {
-    text(out, b"frozen, ");
-    text(out, name);
-    answer(out, state::queries::frozen(w, mounted) as u64);
+    out.text(b"frozen, ");
+    out.text(name);
+    out.answer(state::queries::frozen(w, mounted) as u64);
 }
 
 // The last write was long ago.

@@ -1,16 +1,15 @@
 // What is read of staged sectors.
-use crate::{answer, byte, number, text};
 use printed::Output;
 use state::w::{St, initial_state};
 use std::io::Write;
 
 fn staged(c: u16, map: u64, blk: [u16; 8]) -> St {
     St {
-        c: c,
+        c,
         sealed: false,
         ro: 0,
-        map: map,
-        blk: blk,
+        map,
+        blk,
     }
 }
 
@@ -32,20 +31,20 @@ fn show_read(
     s: u32,
     buffer: &mut [u8],
 ) {
-    text(out, b"staged_read");
-    number(out, c as u64);
-    number(out, s as u64);
-    number(out, buffer.len() as u64);
+    out.text(b"staged_read");
+    out.number(c as u64);
+    out.number(s as u64);
+    out.number(buffer.len() as u64);
     let r = medium::reads::staged_read(st, fat, area, c, s, buffer);
-    text(out, b":");
-    number(out, r.no as u64);
-    number(out, r.staged as u64);
+    out.text(b":");
+    out.number(refusals::told(r) as u64);
+    out.number((r == Ok(true)) as u64);
     if buffer.len() < 2 {
         return;
     }
-    byte(out, buffer[0]);
-    byte(out, buffer[1]);
-    answer(out, sum(buffer));
+    out.number(buffer[0] as u64);
+    out.number(buffer[1] as u64);
+    out.answer(sum(buffer));
 }
 
 fn read(out: &mut Output<impl Write>, st: [St; 28], fat: &[u16], area: &[u8], c: u32, s: u32) {
@@ -116,9 +115,9 @@ fn reads(out: &mut Output<impl Write>) {
     mark(&mut area);
     marked(out, st, &fat, &area);
     let short = [7u8; 8191];
-    text(out, b"no medium: ");
+    out.text(b"no medium: ");
     read(out, st, &fat, &short, 9, 0);
-    text(out, b"no medium: ");
+    out.text(b"no medium: ");
     read(out, st, &fat[..2], &short[..0], 9, 0);
 }
 
@@ -147,12 +146,9 @@ fn moved(
     area[8188] = 112;
     area[8189] = 17;
     area[8190] = 1;
-    text(out, b"moved_ref, ");
-    text(out, name);
-    answer(
-        out,
-        medium::reads::moved_ref(&[0, 0, 1, 1], &area[..end], st, start, size) as u64,
-    );
+    out.text(b"moved_ref, ");
+    out.text(name);
+    out.answer(medium::reads::moved_ref(&[0, 0, 1, 1], &area[..end], st, start, size) as u64);
 }
 
 fn by_staged(out: &mut Output<impl Write>, name: &[u8], c: u16, map: u64, last: u16) {

@@ -5,23 +5,12 @@ ghost use Rattle.std.specs.Prelude.{◌<◌};
 pub(crate) fn digit(line: &[u8], i: usize) -> u8
     ensures { result < 16 }
 {
-    if line.len() <= i {
-        return 0;
+    let c = line.get(i).copied().unwrap_or(0);
+    match c {
+        b'0'..=b'9' => c - b'0',
+        b'A'..=b'F' => c - 55,
+        _ => 0,
     }
-    let c = line[i];
-    if c < b'0' {
-        return 0;
-    }
-    if c <= b'9' {
-        return c - b'0';
-    }
-    if c < b'A' {
-        return 0;
-    }
-    if b'F' < c {
-        return 0;
-    }
-    c - 55
 }
 
 pub(crate) fn two(line: &[u8], i: usize) -> usize

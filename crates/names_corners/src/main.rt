@@ -36,61 +36,40 @@ fn cleared() -> Root {
     }
 }
 
-fn copy_slot(d: &mut [u8], at: usize, e: [u8; 32]) {
-    if d.len() < 32 {
-        return;
+fn with_slot(mut root: Root, line: &[u8]) -> Root {
+    let at = two(line, 2) * 32;
+    if at <= 480 {
+        root.d[at..at + 32].copy_from_slice(&bytes(line));
     }
-    if d.len() - 32 < at {
-        return;
-    }
-    for i in 0..32 {
-        d[at + i] = e[i];
-    }
+    root
 }
 
-fn with_slot(root: Root, line: &[u8]) -> Root {
-    let e = bytes(line);
-    let mut d = root.d;
-    copy_slot(&mut d, two(line, 2) * 32, e);
-    let rec = root.rec;
-    Root { d: d, rec: rec }
-}
-
-fn with_record(root: Root, line: &[u8]) -> Root {
+fn with_record(mut root: Root, line: &[u8]) -> Root {
     let i = digit(line, 2) as usize;
-    if NREC <= i {
-        return root;
+    if i < NREC {
+        root.rec[i] = Rec {
+            slot: three(line, 4) as u16,
+            e: bytes(line),
+        };
     }
-    let e = bytes(line);
-    let r = Rec {
-        slot: three(line, 4) as u16,
-        e: e,
-    };
-    let d = root.d;
-    let mut rec = root.rec;
-    rec[i] = r;
-    Root { d: d, rec: rec }
+    root
 }
 
 fn show_strict(out: &mut Output<impl Write>, rec: [Rec; NREC], d: &[u8], idx: usize) {
     let s = strict_name(rec, d, idx);
-    shown::text(out, b" strict");
-    shown::number(out, s.no as u64);
-    shown::number(out, s.housekeeping as u64);
-    shown::line_end(out);
+    out.text(b" strict");
+    out.number(refusals::told(s) as u64);
+    out.number(s.unwrap_or(false) as u64);
+    out.line_end();
 }
 
 fn show_ok(out: &mut Output<impl Write>, rec: [Rec; NREC], d: [u8; 512], idx: usize, host: bool) {
-    shown::text(out, b" rec_ok");
-    if idx < 7 {
-        shown::text(out, b" -");
+    out.text(b" rec_ok");
+    if idx < 7 || 512 <= idx {
+        out.text(b" -");
         return;
     }
-    if 512 <= idx {
-        shown::text(out, b" -");
-        return;
-    }
-    shown::number(out, rec_ok(rec, &d, idx / 16 * 16, idx, host) as u64);
+    out.number(rec_ok(rec, &d, idx / 16 * 16, idx, host) as u64);
 }
 
 fn show_name(out: &mut Output<impl Write>, rec: [Rec; NREC], d: [u8; 512], idx: usize) {
@@ -104,8 +83,7 @@ fn show_name(out: &mut Output<impl Write>, rec: [Rec; NREC], d: [u8; 512], idx: 
 
 fn query(out: &mut Output<impl Write>, root: Root, line: &[u8]) {
     let idx = three(line, 2);
-    shown::text(out, b"slot");
-    shown::number(out, idx as u64);
+    out.named(b"slot ", idx as u64);
     let d = root.d;
     let rec = root.rec;
     show_name(out, rec, d, idx);
@@ -115,8 +93,7 @@ fn query(out: &mut Output<impl Write>, root: Root, line: &[u8]) {
 
 fn query_short(out: &mut Output<impl Write>, root: Root, line: &[u8]) {
     let idx = three(line, 2);
-    shown::text(out, b"slot");
-    shown::number(out, idx as u64);
+    out.named(b"slot ", idx as u64);
     let d = root.d;
     let rec = root.rec;
     let short = &d[..511];
@@ -124,48 +101,34 @@ fn query_short(out: &mut Output<impl Write>, root: Root, line: &[u8]) {
 }
 
 fn bad_line(out: &mut Output<impl Write>) {
-    shown::text(out, b"bad line\n");
+    out.text(b"bad line\n");
 }
 
 fn after(out: &mut Output<impl Write>, root: Root, line: &[u8]) -> Root {
-    if line.len() != 72 {
+    if line.len() != 73 {
         return root;
     }
-    let command = line[0];
-    if command == b'C' {
-        return cleared();
-    }
-    if command == b'S' {
-        return with_slot(root, line);
-    }
-    if command == b'R' {
-        return with_record(root, line);
-    }
-    if command == b'Q' {
-        query(out, root, line);
-        return root;
-    }
-    if command == b'L' {
-        query_short(out, root, line);
-        return root;
-    }
-    if command != b'#' {
-        bad_line(out);
+    match line[0] {
+        b'C' => return cleared(),
+        b'S' => return with_slot(root, line),
+        b'R' => return with_record(root, line),
+        b'Q' => query(out, root, line),
+        b'L' => query_short(out, root, line),
+        b'#' => {}
+        _ => bad_line(out),
     }
     root
 }
 
+// A line here has its newline with it; an input that ends within a line is bad.
 fn run(out: &mut Output<impl Write>, input: &[u8]) {
     let mut root = cleared();
-    let mut at = 0;
-    while at < input.len() {
-        if input.len() - at < 73 {
+    for line in input.chunks(73) {
+        if line.len() < 73 {
             bad_line(out);
             return;
         }
-        let end = at + 72;
-        root = after(out, root, &input[at..end]);
-        at += 73;
+        root = after(out, root, line);
     }
 }
 

@@ -6,103 +6,56 @@ mod tables;
 use printed::Output;
 use std::io;
 use std::io::Write;
-use vdisk::drive::{DirKind, Place};
+use vdisk::drive::Place;
 use vdisk::owner::Own;
 
-pub(crate) fn text(out: &mut Output<impl Write>, t: &[u8]) {
-    out.text(t);
-}
-
-pub(crate) fn number(out: &mut Output<impl Write>, n: u64) {
-    out.text(b" ");
-    out.decimal(n);
-}
-
-pub(crate) fn line_end(out: &mut Output<impl Write>) {
-    out.text(b"\n");
-}
-
 fn show_nclus(out: &mut Output<impl Write>, size: u32) {
-    text(out, b"nclus");
-    number(out, size as u64);
-    number(out, vdisk::drive::nclus(size) as u64);
-    line_end(out);
+    out.named(b"nclus ", size as u64);
+    out.number(vdisk::drive::nclus(size) as u64);
+    out.line_end();
 }
 
 fn show_place(out: &mut Output<impl Write>, lba: u32) {
-    text(out, b"place");
-    number(out, lba as u64);
+    out.named(b"place ", lba as u64);
     match vdisk::drive::place_of(lba) {
-        Place::Boot => {
-            text(out, b" boot");
-        }
-        Place::Fat(s) => {
-            text(out, b" fat");
-            number(out, s as u64);
-        }
-        Place::Root(s) => {
-            text(out, b" root");
-            number(out, s as u64);
-        }
+        Place::Boot => out.text(b" boot"),
+        Place::Fat(s) => out.named(b" fat ", s as u64),
+        Place::Root(s) => out.named(b" root ", s as u64),
         Place::Data(c, s) => {
-            text(out, b" data");
-            number(out, c as u64);
-            number(out, s as u64);
+            out.named(b" data ", c as u64);
+            out.number(s as u64);
         }
-        Place::Outside => {
-            text(out, b" outside");
-        }
+        Place::Outside => out.text(b" outside"),
     }
-    line_end(out);
+    out.line_end();
 }
 
 fn show_dir_kind(out: &mut Output<impl Write>, c: u32) {
-    text(out, b"dir_kind");
-    number(out, c as u64);
+    out.named(b"dir_kind ", c as u64);
     match vdisk::drive::dir_kind(c) {
-        DirKind::Kind(k) => {
-            number(out, k as u64);
-        }
-        DirKind::NoDir => {
-            text(out, b" none");
-        }
+        Some(k) => out.number(k as u64),
+        None => out.text(b" none"),
     }
-    line_end(out);
+    out.line_end();
 }
 
 fn show_id(out: &mut Output<impl Write>, id: u16) {
-    text(out, b"id");
-    number(out, id as u64);
-    text(out, b": number");
-    number(out, vdisk::ids::number(id) as u64);
-    text(out, b" kind");
-    number(out, vdisk::ids::kind(id) as u64);
-    text(out, b" directory");
-    number(out, vdisk::ids::id_dir(id) as u64);
-    text(out, b" unmarked");
-    number(out, vdisk::ids::is_unmarked(id) as u64);
-    text(out, b" handed");
-    number(out, vdisk::ids::is_handed(id) as u64);
-    text(out, b" cleared");
-    number(out, vdisk::ids::clear_marks(id) as u64);
-    line_end(out);
+    out.named(b"id ", id as u64);
+    out.named(b": number ", vdisk::ids::number(id) as u64);
+    out.named(b" kind ", vdisk::ids::kind(id) as u64);
+    out.named(b" directory ", vdisk::ids::id_dir(id) as u64);
+    out.named(b" unmarked ", vdisk::ids::is_unmarked(id) as u64);
+    out.named(b" handed ", vdisk::ids::is_handed(id) as u64);
+    out.named(b" cleared ", vdisk::ids::clear_marks(id) as u64);
+    out.line_end();
 }
 
 fn show_own(out: &mut Output<impl Write>, o: Own) {
     match o {
-        Own::Reserved => {
-            text(out, b" reserved");
-        }
-        Own::Fixed => {
-            text(out, b" fixed");
-        }
-        Own::Dyn(j) => {
-            text(out, b" file");
-            number(out, j as u64);
-        }
-        Own::Free => {
-            text(out, b" free");
-        }
+        Own::Reserved => out.text(b" reserved"),
+        Own::Fixed => out.text(b" fixed"),
+        Own::Dyn(j) => out.named(b" file ", j as u64),
+        Own::Free => out.text(b" free"),
     }
 }
 
@@ -111,12 +64,11 @@ fn show_owner(out: &mut Output<impl Write>, starts: &[u16], sizes: &[u32], c: u3
     if starts.len() != sizes.len() {
         return;
     }
-    text(out, b"owner");
-    number(out, c as u64);
+    out.named(b"owner ", c as u64);
     let sorted = vdisk::owner::rising(starts);
     show_own(out, vdisk::owner::owner(starts, sizes, sorted, 8, c));
     show_own(out, vdisk::owner::owner(starts, sizes, false, 8, c));
-    line_end(out);
+    out.line_end();
 }
 
 fn owners_of(out: &mut Output<impl Write>, starts: &[u16], sizes: &[u32], clusters: &[u32]) {
@@ -148,59 +100,24 @@ fn owners_unsorted(out: &mut Output<impl Write>) {
     );
 }
 
-#[derive(Clone, Copy)]
-enum Lookup {
-    Nclus,
-    Place,
-    DirKind,
-    Id,
-}
-
-fn show(out: &mut Output<impl Write>, what: Lookup, x: u32) {
-    match what {
-        Lookup::Nclus => {
-            show_nclus(out, x);
-        }
-        Lookup::Place => {
-            show_place(out, x);
-        }
-        Lookup::DirKind => {
-            show_dir_kind(out, x);
-        }
-        Lookup::Id => {
-            show_id(out, (x % 65536) as u16);
-        }
-    }
-}
-
-fn each(out: &mut Output<impl Write>, what: Lookup, list: &[u32]) {
-    for x in list {
-        show(out, what, *x);
-    }
-}
-
 fn main(rt: HostRuntime) -> io::Result<()> {
     let mut out = Output::new(io::writer(&rt));
-    each(
-        &mut out,
-        Lookup::Nclus,
-        &[0, 1, 32767, 32768, 32769, 917504, 917505, 4294967295],
-    );
-    each(
-        &mut out,
-        Lookup::Place,
-        &[
-            0, 1, 254, 255, 508, 509, 540, 541, 604, 605, 4160540, 4160541, 4294967295,
-        ],
-    );
-    each(&mut out, Lookup::DirKind, &[0, 1, 2, 3, 4, 5, 6, 7, 65002]);
-    each(
-        &mut out,
-        Lookup::Id,
-        &[
-            0, 0x03FF, 0x0407, 0x0BE7, 0x0C07, 0x1C07, 0x3007, 0x7007, 0xB407, 0xFFFF,
-        ],
-    );
+    for size in &[0, 1, 32767, 32768, 32769, 917504, 917505, 4294967295] {
+        show_nclus(&mut out, *size);
+    }
+    for lba in &[
+        0, 1, 254, 255, 508, 509, 540, 541, 604, 605, 4160540, 4160541, 4294967295,
+    ] {
+        show_place(&mut out, *lba);
+    }
+    for c in &[0, 1, 2, 3, 4, 5, 6, 7, 65002] {
+        show_dir_kind(&mut out, *c);
+    }
+    for id in &[
+        0, 0x03FF, 0x0407, 0x0BE7, 0x0C07, 0x1C07, 0x3007, 0x7007, 0xB407, 0xFFFF,
+    ] {
+        show_id(&mut out, *id);
+    }
     owners(&mut out);
     owners_unsorted(&mut out);
     tables::all(&mut out);

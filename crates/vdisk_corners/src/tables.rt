@@ -1,13 +1,7 @@
 // Tables that a start takes or not.
-use crate::{line_end, number, text};
 use file_table::table_ok;
 use printed::Output;
 use std::io::Write;
-
-fn answer(out: &mut Output<impl Write>, taken: bool) {
-    number(out, taken as u64);
-    line_end(out);
-}
 
 // Two files shown in directory 0, the second of kind 3 and empty, and one in directory 1. Each call changes one thing.
 const IDS: [u16; 3] = [0x0007, 0x0C07, 0x0408];
@@ -27,9 +21,9 @@ fn show(
     sizes: [u32; 3],
     first: u32,
 ) {
-    text(out, b"table ");
-    text(out, name);
-    answer(out, table_ok(&ids, &slots, &starts, &sizes, first));
+    out.text(b"table ");
+    out.text(name);
+    out.answer(table_ok(&ids, &slots, &starts, &sizes, first) as u64);
 }
 
 fn with_ids(out: &mut Output<impl Write>, name: &[u8], ids: [u16; 3]) {
@@ -108,21 +102,18 @@ fn column_lengths(out: &mut Output<impl Write>) {
     let slots = [2u16, 2];
     let starts = [100u16, 200];
     let sizes = [1u32, 1];
-    text(out, b"table columns of one length");
-    answer(out, table_ok(&ids, &slots, &starts, &sizes, 8));
-    text(out, b"table short slots");
-    answer(out, table_ok(&ids, &slots[..1], &starts, &sizes, 8));
-    text(out, b"table short starts");
-    answer(out, table_ok(&ids, &slots, &starts[..1], &sizes, 8));
-    text(out, b"table short sizes");
-    answer(out, table_ok(&ids, &slots, &starts, &sizes[..1], 8));
-    text(out, b"table short ids");
-    answer(out, table_ok(&ids[..1], &slots, &starts, &sizes, 8));
-    text(out, b"table no files");
-    answer(
-        out,
-        table_ok(&ids[..0], &slots[..0], &starts[..0], &sizes[..0], 7),
-    );
+    out.text(b"table columns of one length");
+    out.answer(table_ok(&ids, &slots, &starts, &sizes, 8) as u64);
+    out.text(b"table short slots");
+    out.answer(table_ok(&ids, &slots[..1], &starts, &sizes, 8) as u64);
+    out.text(b"table short starts");
+    out.answer(table_ok(&ids, &slots, &starts[..1], &sizes, 8) as u64);
+    out.text(b"table short sizes");
+    out.answer(table_ok(&ids, &slots, &starts, &sizes[..1], 8) as u64);
+    out.text(b"table short ids");
+    out.answer(table_ok(&ids[..1], &slots, &starts, &sizes, 8) as u64);
+    out.text(b"table no files");
+    out.answer(table_ok(&ids[..0], &slots[..0], &starts[..0], &sizes[..0], 7) as u64);
 }
 
 // The numbers from `from` on.
@@ -142,24 +133,11 @@ fn first_rows(
     sizes: &[u32],
     n: usize,
 ) {
-    if ids.len() < n {
+    if ids.len() < n || slots.len() < n || starts.len() < n || sizes.len() < n {
         return;
     }
-    if slots.len() < n {
-        return;
-    }
-    if starts.len() < n {
-        return;
-    }
-    if sizes.len() < n {
-        return;
-    }
-    text(out, b"table files");
-    number(out, n as u64);
-    answer(
-        out,
-        table_ok(&ids[..n], &slots[..n], &starts[..n], &sizes[..n], 8),
-    );
+    out.named(b"table files ", n as u64);
+    out.answer(table_ok(&ids[..n], &slots[..n], &starts[..n], &sizes[..n], 8) as u64);
 }
 
 fn many(out: &mut Output<impl Write>) {
