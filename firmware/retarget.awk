@@ -1,6 +1,6 @@
 # A module that `rattle build` made for x86-64, as text, for a 32-bit little-endian machine: awk -v layout=.. -v triple=.. -v exports=FILE -f retarget.awk.
-# It changes the two target lines, takes out the attributes that name x86-64, and gives zeroext to results of 8 and 16 bits. Every other line must be of a form that is known
-# and means the same on 32 bits; it stops at any other. What is exported goes to the file, a line for each call: its name, its result, its parameters.
+# It changes the two target lines, takes out the attributes that name x86-64, gives zeroext to results of 8 and 16 bits, loads a small number and a pointer one by one, and
+# takes an address as a number of 32 bits. Every other line must be of a form that is known and means the same on 32 bits; it stops at any other. What is exported goes to the file, a line for each call: its name, its result, its parameters.
 function stop(why) {
     print "retarget: " why ": " substr($0, 1, 200) > "/dev/stderr"
     failed = 1
@@ -12,11 +12,16 @@ BEGIN {
     from_triple = "target triple = \"x86_64-unknown-linux-gnu\""
     known_result = "^(void|noundef (i8|i16|i32)|noundef zeroext i1)$"
     known_parameter = "^(ptr|i64|i32|i16|i8|i1)( (noundef|zeroext))* %[A-Za-z0-9_.]+$"
-    known_helper = "^llvm[.](memcpy|memmove|memset)[.a-z0-9]*$"
+    # A trap stands where the library's code is proved never to come.
+    known_helper = "^llvm[.](memcpy|memmove|memset|trap)[.a-z0-9]*$"
     # A pair whose second part begins at the same byte on 32 and 64 bits: of numbers, which are aligned alike, or of a pointer and a number of 64 bits. Functions of the
     # module answer them to one another.
     known_pair = "{ (i(8|16|32|64), i(8|16|32|64)|ptr, i64|i64, ptr) }"
     gsub(/[{}]/, "[&]", known_pair)
+    # These and a pair of a small number and a pointer, which lies otherwise in memory but is answered alike.
+    known_answer = "{ (i(8|16|32|64), i(8|16|32|64)|ptr, i64|i(8|16|32|64), ptr) }"
+    gsub(/[{}]/, "[&]", known_answer)
+    mixed_load = "^  %[A-Za-z0-9_.]+ = load { i(8|16|32), ptr }, ptr %[A-Za-z0-9_.]+, align 8$"
     split("store load alloca call getelementptr br zext trunc ret icmp add mul xor sub switch unreachable urem udiv or lshr shl and extractvalue", list, " ")
     for (i in list) known_operation[list[i]] = 1
     split("load call ret extractvalue", list, " ")
@@ -71,15 +76,29 @@ function operation(    line) {
     sub(/ .*/, "", line)
     if (!(line in known_operation)) stop("an operation that is not known to mean the same on 32 bits")
     if (line == "call" && $0 !~ /call [^@%]*@("[^"]*"|[A-Za-z0-9_.]+)\(/) stop("a call through a pointer")
-    if (line == "extractvalue" && $0 !~ "= extractvalue " known_pair " %[A-Za-z0-9_.]+, [01]$") stop("a part of something else than a known pair")
-    types(line in of_pairs ? without_pair(line) : $0)
+    if (line == "extractvalue" && $0 !~ "= extractvalue " known_answer " %[A-Za-z0-9_.]+, [01]$") stop("a part of something else than a known pair")
+    types(line in of_pairs ? without_pair(line, line == "load" ? known_pair : known_answer) : $0)
 }
 
-# The line without the known pair that the operation, or the definition, begins with.
-function without_pair(start,    line) {
+# The line without the pair that the operation, or the definition, begins with.
+function without_pair(start, pair,    line) {
     line = $0
-    sub(start "( noundef)? " known_pair, start, line)
+    sub(start "( noundef)? " pair, start, line)
     return line
+}
+
+# The load of a small number and a pointer as the loads of its parts, from where they lie on x86-64: the pointer at byte 8.
+function load_parts(    part, from, number) {
+    split($0, part, " ")
+    sub(/,$/, "", part[9])
+    number = part[5]
+    sub(/,$/, "", number)
+    from = part[9]
+    print "  " part[1] ".number = load " number ", ptr " from ", align 8"
+    print "  " part[1] ".at = getelementptr i8, ptr " from ", i64 8"
+    print "  " part[1] ".pointer = load ptr, ptr " part[1] ".at, align 8"
+    print "  " part[1] ".half = insertvalue { " number ", ptr } poison, " number " " part[1] ".number, 0"
+    print "  " part[1] " = insertvalue { " number ", ptr } " part[1] ".half, ptr " part[1] ".pointer, 1"
 }
 
 /^target datalayout = / {
@@ -112,10 +131,20 @@ function without_pair(start,    line) {
 }
 /^define / {
     if (!/^define internal /) export()
-    line = without_pair("define internal")
+    line = without_pair("define internal", known_answer)
     sub(/ #[0-9]+ \{$/, "", line)
     types(line)
     print
+    next
+}
+# An address, widened: what is made of it, a distance or an order, is the same.
+/^  %[A-Za-z0-9_.]+ = ptrtoaddr ptr %[A-Za-z0-9_.]+ to i64$/ {
+    print "  " $1 ".address = ptrtoaddr ptr " $5 " to i32"
+    print "  " $1 " = zext i32 " $1 ".address to i64"
+    next
+}
+$0 ~ mixed_load {
+    load_parts()
     next
 }
 /^  / {
