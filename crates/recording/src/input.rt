@@ -2,11 +2,7 @@
 use crate::calls::run;
 use printed::Output;
 use session_lines::session::fresh;
-use std::io;
-use std::io::{Read, Write};
-
-// No more of the input is read.
-const INPUT_MOST: u64 = 65536;
+use std::io::Write;
 
 // From a fresh session on, with the medium in what is lent.
 pub fn run_all(out: &mut Output<impl Write>, input: &[u8], fat: &mut [u16], area: &mut [u8]) {
@@ -15,16 +11,4 @@ pub fn run_all(out: &mut Output<impl Write>, input: &[u8], fat: &mut [u16], area
         let text = line.strip_suffix(b"\n").unwrap_or(line);
         s = run(out, s, text, i as u64 + 1, fat, area);
     }
-}
-
-// Runs what stands in the standard input, and prints what it answers.
-pub fn run_input(rt: &(impl Input + Print + AllocGlobal)) -> io::Result<()> {
-    let mut input = Vec::new(rt.alloc());
-    let read = rt.reader().take(INPUT_MOST).read_to_end(&mut input);
-    let mut out = Output::new(io::writer(rt));
-    let mut fat = [0u16; 34];
-    let mut area = [0u8; 131072];
-    run_all(&mut out, &input, &mut fat, &mut area);
-    read?;
-    out.finish()
 }
