@@ -1,12 +1,12 @@
 -- What the loops say of the numbers that they go through.
 use Prim.Native.Nat.{ℕ, zero, suc, ◌+◌, ◌<◌, ◌≤◌}
-use Rattle.std.specs.Prelude.{Bool, ◌≡◌, eqb, length, get_or}
+use Rattle.std.specs.Prelude.{Bool, ◌≡◌, eqb, ltb, length, get_or}
 use Rattle.std.proofs.Math.Bool.{true, false}
 use Rattle.std.proofs.Common.{true≢false, sym, ◌∙◌, ap, arith}
 use Rattle.std.proofs.lemmas.Bool.{false≢true}
 use Rattle.std.proofs.Math.Path.{refl}
-use borrow.Author.Tests.{eqb-true, eqb-false}
-use Rattle.loops.specs.Loops.{all, some, listed, first, last, count, scan, fold, Turn, stop, go, next}
+use borrow.Author.Tests.{eqb-true, eqb-false, ltb-true, ltb-false}
+use Rattle.loops.specs.Loops.{pick, all, some, listed, first, last, count, scan, fold, Turn, stop, go, next}
 use Rattle.loops.specs.Choices.{either, pick-by, picked, or-by, or-l, or-r}
 
 pub all-at : (p : ℕ → Bool) (n i k : ℕ) → all p n i ≡ true → i ≤ k → k < i + n → p k ≡ true
@@ -62,6 +62,22 @@ first-below p zero i k l = λ h. absurd (omega arith)
 first-below p (suc n) i k l =
     pick-by (λ (m : ℕ). k < m → p k ≡ false) (p i) i (first p n (i + 1)) (λ q h. absurd (omega arith))
     (λ q h. either (eqb i k) (λ z. rw (eqb-true i k z) at q) (λ z. let w = eqb-false i k z in first-below p n (i + 1) k (omega arith) h))
+
+-- the first that is so, by those before it; and where none is so
+module _ (p : ℕ → Bool) (n : ℕ) where
+  pub first-is : (m : ℕ) → m < n → p m ≡ true → ((k : ℕ) → k < m → p k ≡ false) → first p n 0 ≡ m
+  first-is m h e f =
+      either (ltb (first p n 0) m)
+      (λ q. absurd (true≢false (sym (first-at p n 0 (omega (arith, ltb-true (first p n 0) m q))) ∙ f (first p n 0) (ltb-true (first p n 0) m q))))
+      (λ q. either (ltb m (first p n 0))
+      (λ r. absurd (true≢false (sym e ∙ first-below p n 0 m (omega arith) (ltb-true m (first p n 0) r))))
+      (λ r. omega (arith, ltb-false (first p n 0) m q, ltb-false m (first p n 0) r)))
+
+  pub first-none : ((k : ℕ) → k < n → p k ≡ false) → first p n 0 ≡ n
+  first-none f =
+      either (ltb (first p n 0) n)
+      (λ q. absurd (true≢false (sym (first-at p n 0 (omega (arith, ltb-true (first p n 0) n q))) ∙ f (first p n 0) (ltb-true (first p n 0) n q))))
+      (λ q. omega (arith, ltb-false (first p n 0) n q, first-le p n 0))
 
 pub listed-length : {A : Type 0} (f : ℕ → A) (n i : ℕ) → length (listed f n i) ≡ n
 unfolding listed
@@ -165,3 +181,33 @@ count-zero p (suc n) i k e l h =
     (λ q. let z : 0 + count p n (i + 1) ≡ 0 = rw q at e in
     either (eqb i k) (λ w. rw (eqb-true i k w) at q)
     (λ w. let v = eqb-false i k w in count-zero p n (i + 1) k (omega arith) (omega arith) (omega arith)))
+
+-- one more number at the end
+pub count-last : (p : ℕ → Bool) (n i : ℕ) → count p (n + 1) i ≡ count p n i + pick (p (i + n)) 1 0
+unfolding count
+count-last p zero i = let e : i + 0 ≡ i = omega arith in rw e (omega arith)
+count-last p (suc n) i =
+    let e : i + suc n ≡ i + 1 + n = omega arith in
+    let q : suc n + 1 ≡ suc (n + 1) = omega arith in
+    let r = count-last p n (i + 1) in
+    rw (e, q) (omega (arith, r))
+
+pub count-le : (p : ℕ → Bool) (n i : ℕ) → count p n i ≤ n
+unfolding count
+count-le p zero i = omega arith
+count-le p (suc n) i = either (p i) (λ e. rw e (omega (arith, count-le p n (i + 1)))) (λ e. rw e (omega (arith, count-le p n (i + 1))))
+
+-- a fold in two parts, and one whose turns change nothing
+module _ {S : Type 0} (turn : ℕ → S → S) where
+  pub fold-split : (n k i : ℕ) (s : S) → fold turn (n + k) i s ≡ fold turn k (i + n) (fold turn n i s)
+  unfolding fold
+  fold-split zero k i s = let e : i + 0 ≡ i = omega arith in let q : 0 + k ≡ k = omega arith in rw (e, q)
+  fold-split (suc n) k i s =
+      let e : i + suc n ≡ i + 1 + n = omega arith in
+      let q : suc n + k ≡ suc (n + k) = omega arith in
+      rw (e, q) (fold-split n k (i + 1) (turn i s))
+
+  pub fold-still : (n i : ℕ) (s : S) → ((k : ℕ) → i ≤ k → k < i + n → turn k s ≡ s) → fold turn n i s ≡ s
+  unfolding fold
+  fold-still zero i s f = refl
+  fold-still (suc n) i s f = rw (f i (omega arith) (omega arith)) (fold-still n (i + 1) s (λ k l h. f k (omega arith) (omega arith)))

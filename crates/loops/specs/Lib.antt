@@ -8,4 +8,3 @@ pub mod Found
 pub mod Rows
 pub mod Keyed
 pub mod Marks
-pub mod Skips

@@ -30,30 +30,30 @@ impl Place for Rec {
 }
 
 // The place of the record of root slot `idx`.
-pub fn rec_idx(rec: [Rec; NREC], idx: usize) -> Option<usize>
-    ensures { result ≡ rec_idx rec idx }
+pub fn rec_idx(rec: &[Rec; NREC], idx: usize) -> Option<usize>
+    ensures { result ≡ rec_idx rec.now idx }
 {
-    index_of(&rec, idx)
+    index_of(rec, idx)
 }
 
 // The first place that is not in use.
-pub fn free_rec(rec: [Rec; NREC]) -> Option<usize>
-    ensures { result ≡ free_rec rec }
+pub fn free_rec(rec: &[Rec; NREC]) -> Option<usize>
+    ensures { result ≡ free_rec rec.now }
 {
-    first_free(&rec)
+    first_free(rec)
 }
 
 // How many places are not in use.
-pub fn free_recs(rec: [Rec; NREC]) -> usize
-    ensures { result ≡ free_recs rec }
+pub fn free_recs(rec: &[Rec; NREC]) -> usize
+    ensures { result ≡ free_recs rec.now }
 {
-    count_free(&rec)
+    count_free(rec)
 }
 
 // The bytes of the host's record in root slot `idx`, if there is one. The definition gives zeros where there is none.
-pub fn root_rec(rec: [Rec; NREC], idx: usize) -> Option<[u8; 32]>
-    ensures found { is_some result ≡ (root_rec rec idx).found }
-    ensures bytes { unwrap_or result (replicate 32 0) ≡ (root_rec rec idx).e }
+pub fn root_rec(rec: &[Rec; NREC], idx: usize) -> Option<[u8; 32]>
+    ensures found { is_some result ≡ (root_rec rec.now idx).found }
+    ensures bytes { unwrap_or result (replicate 32 0) ≡ (root_rec rec.now idx).e }
 {
     let i = rec_idx(rec, idx)?;
     Some(rec[i].e)

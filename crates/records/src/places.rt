@@ -1,6 +1,6 @@
 // The searches among places that hold a number each, 0 where they are not in use.
-ghost use Rattle.std.specs.Prelude.{◌≡◌, ℕ};
-ghost use Rattle.loops.specs.Loops.{count};
+ghost use Rattle.std.specs.Prelude.{◌≡◌, ℕ, not};
+ghost use Rattle.loops.specs.Loops.{some, count};
 ghost use Rattle.loops.specs.Found.{find};
 ghost use Rattle.loops.specs.Keyed.{used_for, used_place, free_place};
 
@@ -45,6 +45,18 @@ pub fn first_free<P: Place, const N: usize>(places: &[P; N]) -> Option<usize>
         }
     }
     None
+}
+
+// Is a place in use.
+pub fn any_used<P: Place, const N: usize>(places: &[P; N]) -> bool
+    ensures { (d : P) → result ≡ some (λ i. not (free_place P.key d places.now i)) N 0 }
+{
+    for p in places {
+        if p.key() != 0 {
+            return true;
+        }
+    }
+    false
 }
 
 // How many places are not in use.

@@ -2,8 +2,29 @@
 
 #![tactic(auto)]
 
-ghost use Rattle.std.specs.Prelude.{◌≡◌, ℕ, ◌+◌, ◌<◌, length, replicate};
+ghost use Rattle.std.specs.Prelude.{◌≡◌, ℕ, ◌+◌, ◌<◌, length};
 ghost use Rattle.sector.specs.Bytes.{word, word32, same, zeros};
+
+// The bytes of a sector.
+pub type Sector = [u8; 512];
+
+// A sector as it is shown and as it is written.
+#[derive(Clone, Copy)]
+pub struct Sectors<'a> {
+    pub shown: &'a Sector,
+    pub written: &'a Sector,
+}
+
+impl Sectors<'_> {
+    // Is it written as it is shown.
+    pub fn same(&self) -> bool
+        ensures { result ≡ same self.now.shown.now self.now.written.now }
+    {
+        let shown = self.shown;
+        let written = self.written;
+        equal(shown, written)
+    }
+}
 
 // The 16-bit number at `at`, low byte first.
 pub fn le16(b: &[u8], at: usize) -> u16
@@ -44,19 +65,4 @@ pub fn is_zero(a: &[u8]) -> bool
         seen |= x;
     }
     seen == 0
-}
-
-// The bytes of `from` put into `to`.
-pub fn copy(to: &mut [u8], from: &[u8])
-    requires { length to.old ≡ length from.now }
-    ensures { to.new ≡ from.now }
-{
-    to.copy_from_slice(from);
-}
-
-// Every byte of `to` set to `v`.
-pub fn fill(to: &mut [u8], v: u8)
-    ensures { to.new ≡ replicate (length to.old) v }
-{
-    to.fill(v);
 }

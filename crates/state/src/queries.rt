@@ -7,15 +7,15 @@ use crate::w::W;
 // A host that never locks the medium: the session ends this long after its last write.
 pub const QUIET_MS: u64 = 60000;
 
-pub fn boot_state(w: W) -> u8
-    ensures { result ≡ boot_of w }
+pub fn boot_state(w: &W) -> u8
+    ensures { result ≡ boot_of w.now }
 {
     w.boot
 }
 
 // FAT[1] as the host wrote it, 65535 if it didn't.
-pub fn fat1(w: W) -> u16
-    ensures { result ≡ fat1_of w }
+pub fn fat1(w: &W) -> u16
+    ensures { result ≡ fat1_of w.now }
 {
     let f = w.fat1;
     if bits::test_u64(f as u64, 16) {
@@ -25,8 +25,8 @@ pub fn fat1(w: W) -> u16
 }
 
 // The layout must not change under the host.
-pub fn frozen(w: W, mounted: bool) -> bool
-    ensures { result ≡ frozen_of w mounted }
+pub fn frozen(w: &W, mounted: bool) -> bool
+    ensures { result ≡ frozen_of w.now mounted }
 {
     if !w.rw {
         return false;
@@ -46,5 +46,5 @@ pub fn frozen(w: W, mounted: bool) -> bool
     if w.last == 0 {
         return false;
     }
-    num::saturating_sub_u64(w.now_ms, w.last) < QUIET_MS
+    w.now_ms.saturating_sub(w.last) < QUIET_MS
 }

@@ -1,6 +1,6 @@
 // The session's state, as vwrite.rs keeps it, with the first session cluster.
 ghost use Rattle.std.specs.Prelude.{◌≡◌};
-ghost use Rattle.state.specs.State.{initial};
+ghost use Rattle.state.specs.State.{st0, initial};
 
 use records::places::Place;
 use records::{NREC, Rec};
@@ -40,6 +40,21 @@ pub struct St {
     pub ro: u8,
     pub map: u64,
     pub blk: [u16; BPC],
+}
+
+impl St {
+    // A slot that is not in use.
+    pub fn unused() -> St
+        ensures { result ≡ st0 }
+    {
+        St {
+            c: 0,
+            sealed: false,
+            ro: 0,
+            map: 0,
+            blk: [0u16; BPC],
+        }
+    }
 }
 
 impl Place for St {
@@ -109,21 +124,6 @@ pub struct W {
     pub first: u32,
 }
 
-// How a sector was judged: the refusal number, 0 where it was taken; whether that opens the session; the state then.
-#[derive(Clone, Copy)]
-pub struct Judged {
-    pub no: u8,
-    pub changed: bool,
-    pub w: W,
-}
-
-// What a call answers: the refusal number, 0 where it was taken, and the state then.
-#[derive(Clone, Copy)]
-pub struct Answer {
-    pub no: u8,
-    pub w: W,
-}
-
 // The state as it first stands, with the first session cluster.
 pub fn initial_state(first: u32) -> W
     ensures { result ≡ initial first }
@@ -133,13 +133,7 @@ pub fn initial_state(first: u32) -> W
         e: [0u8; 32],
     };
     let pair0 = Pair { c: 0, v: 0 };
-    let st0 = St {
-        c: 0,
-        sealed: false,
-        ro: 0,
-        map: 0,
-        blk: [0u16; BPC],
-    };
+    let st0 = St::unused();
     let done = Done {
         slot: 0,
         start: 0,

@@ -17,4 +17,4 @@ bounds-w-k c = slot_of-lt _ _ _ (sym c.slot_of.ensures ∙ c.in-Some.is)
 
 pub returns : goal.returns
 unfolding drop_at with_st
-returns c = simp (sym c.slot_of.ensures ∙ c.in-Some.is)
+returns c = simp (sym c.slot_of.ensures ∙ c.in-Some.is, c.unused.ensures)

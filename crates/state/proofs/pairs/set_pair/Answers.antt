@@ -6,13 +6,13 @@ use Rattle.state.specs.Pairs.{set_pair, set_at}
 use Rattle.state.specs.Setters.{with_pair}
 use Rattle.state.proofs.pairs.set_pair.Goals as goal
 
-pub returns-then-v-eq0 : goal.returns-then-v-eq0
+pub returns-then-v-ne0 : goal.returns-then-v-ne0
 unfolding set_pair set_at
-returns-then-v-eq0 c = simp (sym c.pair_idx.ensures ∙ c.in_default.is, eq-eqb _ _ c.if-v-eq0.true)
+returns-then-v-ne0 c = simp (sym c.pair_idx.ensures ∙ c.in_default.is, ne_eqb _ _ c.if-v-ne0.true) c.add_pair.ensures
 
-pub returns-in_default : goal.returns-in_default
+pub returns-else-v-ne0 : goal.returns-else-v-ne0
 unfolding set_pair set_at
-returns-in_default c = simp (sym c.pair_idx.ensures ∙ c.in_default.is, ne_eqb _ _ c.if-v-eq0.false) c.add_pair.ensures
+returns-else-v-ne0 c = simp (sym c.pair_idx.ensures ∙ c.in_default.is, eq-eqb _ _ c.if-v-ne0.false)
 
 pub offset_bounds-w-i : goal.offset_bounds-w-i
 offset_bounds-w-i c = omega (arith, pair_idx-lt _ _ _ (sym c.pair_idx.ensures ∙ c.in-Some.is))
@@ -20,15 +20,9 @@ offset_bounds-w-i c = omega (arith, pair_idx-lt _ _ _ (sym c.pair_idx.ensures �
 pub bounds-w-i : goal.bounds-w-i
 bounds-w-i c = pair_idx-lt _ _ _ (sym c.pair_idx.ensures ∙ c.in-Some.is)
 
-pub returns-then-v-eq0-2 : goal.returns-then-v-eq0-2
+pub returns-then-v-eq0 : goal.returns-then-v-eq0
 unfolding set_pair set_at with_pair
-returns-then-v-eq0-2 c = simp (sym c.pair_idx.ensures ∙ c.in-Some.is, eq-eqb _ _ c.if-v-eq0-2.true) c.drop_slot.ensures
-
-pub offset_bounds-pair-i : goal.offset_bounds-pair-i
-offset_bounds-pair-i c = omega (arith, pair_idx-lt _ _ _ (sym c.pair_idx.ensures ∙ c.in-Some.is))
-
-pub bounds-pair-i : goal.bounds-pair-i
-bounds-pair-i c = pair_idx-lt _ _ _ (sym c.pair_idx.ensures ∙ c.in-Some.is)
+returns-then-v-eq0 c = simp (sym c.pair_idx.ensures ∙ c.in-Some.is, eq-eqb _ _ c.if-v-eq0.true) c.drop_slot.ensures
 
 pub offset_bounds-w-i-2 : goal.offset_bounds-w-i-2
 offset_bounds-w-i-2 c = omega (arith, pair_idx-lt _ _ _ (sym c.pair_idx.ensures ∙ c.in-Some.is))
@@ -38,4 +32,4 @@ bounds-w-i-2 c = pair_idx-lt _ _ _ (sym c.pair_idx.ensures ∙ c.in-Some.is)
 
 pub returns : goal.returns
 unfolding set_pair set_at with_pair
-returns c = simp (sym c.pair_idx.ensures ∙ c.in-Some.is, ne_eqb _ _ c.if-v-eq0-2.false)
+returns c = simp (sym c.pair_idx.ensures ∙ c.in-Some.is, ne_eqb _ _ c.if-v-eq0.false)
