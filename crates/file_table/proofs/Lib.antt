@@ -1,1 +1,2 @@
 pub mod FileRows
+pub mod RowLaws

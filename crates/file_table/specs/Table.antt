@@ -5,6 +5,7 @@ use Rattle.vdisk.specs.Drive.{clusters_of, last_cluster}
 use Rattle.vdisk.specs.Ids.{unmarked, id_dir_of, same_name}
 use Rattle.vdisk.specs.Owner.{rises}
 use Rattle.file_table.specs.declared.VF.{VF}
+use Rattle.file_table.specs.Files.{id_of, dir_slot_of, start_of, size_of}
 
 -- The columns of the table that the rules read, and the first session cluster.
 pub record Table : Type 0 where
@@ -20,7 +21,7 @@ table_of ids slots starts sizes first = record { ids = ids; slots = slots; start
 -- the columns of a list of files
 abbrev pub columns : List VF → ℕ → Table
 columns files first =
-    table_of (map (λ f. f.id) files) (map (λ f. f.slot) files) (map (λ f. f.vstart) files) (map (λ f. f.vsize) files) first
+    table_of (map id_of files) (map dir_slot_of files) (map start_of files) (map size_of files) first
 
 -- The file table has up to 400 files
 abbrev pub max_files : ℕ

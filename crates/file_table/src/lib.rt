@@ -2,14 +2,17 @@
 
 #![tactic(auto)]
 
-ghost use Rattle.std.specs.Prelude.{◌≡◌, true, ℕ, ◌<◌, length};
-ghost use Rattle.vdisk.specs.Owner.{rises};
-ghost use Rattle.file_table.specs.TableLaws.{place_key};
-ghost use Rattle.file_table.specs.Table.{all_unmarked, starts_apart, clusters_in, all_in, clusters_fit, names_apart, shares_name, places_apart, shares_place, table_of, accepts};
+pub mod owner;
 
+ghost use Rattle.std.specs.Prelude.{◌≡◌, true, ℕ, ◌<◌, map, length};
+ghost use Rattle.vdisk.specs.Owner.{rises};
+ghost use Rattle.file_table.specs.Files.{id_of, dir_slot_of, start_of, size_of};
+ghost use Rattle.file_table.specs.TableLaws.{place_key};
+ghost use Rattle.file_table.specs.Table.{all_unmarked, starts_apart, clusters_in, all_in, clusters_fit, names_apart, shares_name, places_apart, shares_place, columns, accepts};
+
+use crate::owner::rising;
 use vdisk::drive::{CLUSTERS, nclus};
 use vdisk::ids::{clear_marks, id_dir, is_unmarked};
-use vdisk::owner::rising;
 
 // Files of a table at most.
 pub const MAX_VF: usize = 400;
@@ -27,21 +30,21 @@ pub struct VF {
     pub vsize: u32,
 }
 
-// Each part of the check is one loop over a column; none leaves the check of a column's index to another.
-fn all_unmarked(ids: &[u16]) -> bool
-    ensures { result ≡ all_unmarked ids.now }
+// Each part of the check is one loop over the rows.
+fn all_unmarked(files: &[VF]) -> bool
+    ensures { result ≡ all_unmarked (map id_of files.now) }
 {
-    ids.iter().all(|id| is_unmarked(*id))
+    files.iter().all(|f| is_unmarked(f.id))
 }
 
 // Where the starts rise, it is enough that each file ends at or before the next one's start.
-fn starts_apart(starts: &[u16], sizes: &[u32]) -> bool
-    requires { (length starts.now ≡ length sizes.now) × (rises starts.now ≡ true) }
-    ensures { result ≡ starts_apart starts.now sizes.now }
+fn starts_apart(files: &[VF]) -> bool
+    requires { rises (map start_of files.now) ≡ true }
+    ensures { result ≡ starts_apart (map start_of files.now) (map size_of files.now) }
 {
-    for j in 1..starts.len() {
-        let end = starts[j - 1] as u32 + nclus(sizes[j - 1]);
-        if (starts[j] as u32) < end {
+    for j in 1..files.len() {
+        let end = files[j - 1].vstart as u32 + nclus(files[j - 1].vsize);
+        if (files[j].vstart as u32) < end {
             return false;
         }
     }
@@ -62,12 +65,12 @@ fn clusters_in(first: u32, start: u32, n: u32) -> bool
     start + n <= CLUSTERS + 2
 }
 
-fn all_in(starts: &[u16], sizes: &[u32], first: u32) -> bool
-    requires { length starts.now ≡ length sizes.now }
-    ensures { result ≡ all_in starts.now sizes.now first }
+fn all_in(files: &[VF], first: u32) -> bool
+    ensures { result ≡ all_in (map start_of files.now) (map size_of files.now) first }
 {
-    for (start, size) in starts.iter().zip(sizes) {
-        if !clusters_in(first, *start as u32, nclus(*size)) {
+    for f in files {
+        let n = nclus(f.vsize);
+        if !clusters_in(first, f.vstart as u32, n) {
             return false;
         }
     }
@@ -75,25 +78,25 @@ fn all_in(starts: &[u16], sizes: &[u32], first: u32) -> bool
 }
 
 // Both searches among the earlier rows go on after a find, so that the compiler compares many rows at once.
-fn shares_name(ids: &[u16], j: usize) -> bool
-    requires { j < length ids.now }
-    ensures { result ≡ shares_name ids.now j }
+fn shares_name(files: &[VF], j: usize) -> bool
+    requires { j < length files.now }
+    ensures { result ≡ shares_name (map id_of files.now) j }
 {
-    let name = clear_marks(ids[j]);
+    let name = clear_marks(files[j].id);
     let mut found = false;
-    for id in &ids[..j] {
-        if *id % 4096 == name {
+    for f in &files[..j] {
+        if f.id % 4096 == name {
             found = true;
         }
     }
     found
 }
 
-fn names_apart(ids: &[u16]) -> bool
-    ensures { result ≡ names_apart ids.now }
+fn names_apart(files: &[VF]) -> bool
+    ensures { result ≡ names_apart (map id_of files.now) }
 {
-    for j in 0..ids.len() {
-        if shares_name(ids, j) {
+    for j in 0..files.len() {
+        if shares_name(files, j) {
             return false;
         }
     }
@@ -107,41 +110,39 @@ fn place_key(id: u16, slot: u16) -> u32
     id_dir(id) as u32 * 65536 + slot as u32
 }
 
-fn shares_place(ids: &[u16], slots: &[u16], j: usize) -> bool
-    requires { (j < length ids.now) × (length ids.now ≡ length slots.now) }
-    ensures { result ≡ shares_place ids.now slots.now j }
+fn shares_place(files: &[VF], j: usize) -> bool
+    requires { j < length files.now }
+    ensures { result ≡ shares_place (map id_of files.now) (map dir_slot_of files.now) j }
 {
-    let key = place_key(ids[j], slots[j]);
+    let key = place_key(files[j].id, files[j].slot);
     let mut found = false;
-    for i in 0..j {
-        if place_key(ids[i], slots[i]) == key {
+    for f in &files[..j] {
+        if place_key(f.id, f.slot) == key {
             found = true;
         }
     }
     found
 }
 
-fn places_apart(ids: &[u16], slots: &[u16]) -> bool
-    requires { length ids.now ≡ length slots.now }
-    ensures { result ≡ places_apart ids.now slots.now }
+fn places_apart(files: &[VF]) -> bool
+    ensures { result ≡ places_apart (map id_of files.now) (map dir_slot_of files.now) }
 {
-    for j in 0..ids.len() {
-        if shares_place(ids, slots, j) {
+    for j in 0..files.len() {
+        if shares_place(files, j) {
             return false;
         }
     }
     true
 }
 
-// The conditions on starts and clusters, of columns of one length.
-fn clusters_ok(starts: &[u16], sizes: &[u32], first: u32) -> bool
-    requires { length starts.now ≡ length sizes.now }
-    ensures { result ≡ clusters_fit starts.now sizes.now first }
+// The conditions on starts and clusters.
+fn clusters_ok(files: &[VF], first: u32) -> bool
+    ensures { result ≡ clusters_fit (map start_of files.now) (map size_of files.now) first }
 {
-    if !rising(starts) {
+    if !rising(files) {
         return false;
     }
-    if !starts_apart(starts, sizes) {
+    if !starts_apart(files) {
         return false;
     }
     if first < 7 {
@@ -150,33 +151,24 @@ fn clusters_ok(starts: &[u16], sizes: &[u32], first: u32) -> bool
     if 65002 < first {
         return false;
     }
-    all_in(starts, sizes, first)
+    all_in(files, first)
 }
 
-// Does a start take the table with these columns and this first session cluster.
-pub fn table_ok(ids: &[u16], slots: &[u16], starts: &[u16], sizes: &[u32], first: u32) -> bool
-    ensures { result ≡ accepts (table_of ids.now slots.now starts.now sizes.now first) }
+// Does a start take the table with this first session cluster.
+pub fn table_ok(files: &[VF], first: u32) -> bool
+    ensures { result ≡ accepts (columns files.now first) }
 {
-    if slots.len() != ids.len() {
+    if MAX_VF < files.len() {
         return false;
     }
-    if starts.len() != ids.len() {
+    if !all_unmarked(files) {
         return false;
     }
-    if sizes.len() != ids.len() {
+    if !clusters_ok(files, first) {
         return false;
     }
-    if MAX_VF < ids.len() {
+    if !names_apart(files) {
         return false;
     }
-    if !all_unmarked(ids) {
-        return false;
-    }
-    if !clusters_ok(starts, sizes, first) {
-        return false;
-    }
-    if !names_apart(ids) {
-        return false;
-    }
-    places_apart(ids, slots)
+    places_apart(files)
 }

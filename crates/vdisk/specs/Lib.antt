@@ -5,4 +5,3 @@ pub mod Owner
 pub mod DriveLaws
 pub mod IdLaws
 pub mod OwnerLaws
-pub mod RisingLaws

@@ -1,4 +1,4 @@
-// The lookups of vdisk.rs: the drive's layout, the parts of a file's id, and who owns a cluster.
+// The lookups of vdisk.rs: the drive's layout, the parts of a file's id, and the kinds of owner of a cluster.
 
 #![tactic(auto)]
 

@@ -3,6 +3,8 @@
 
 mod tables;
 
+use file_table::VF;
+use file_table::owner::Files;
 use printed::Output;
 use std::io;
 use std::io::Write;
@@ -60,20 +62,27 @@ fn show_own(out: &mut Output<impl Write>, o: Own) {
 }
 
 // The owner by halves, where the starts rise, and by rows.
-fn show_owner(out: &mut Output<impl Write>, starts: &[u16], sizes: &[u32], c: u32) {
-    if starts.len() != sizes.len() {
-        return;
-    }
+fn show_owner(out: &mut Output<impl Write>, rows: &[VF], c: u32) {
     out.named(b"owner ", c as u64);
-    let sorted = vdisk::owner::rising(starts);
-    show_own(out, vdisk::owner::owner(starts, sizes, sorted, 8, c));
-    show_own(out, vdisk::owner::owner(starts, sizes, false, 8, c));
+    show_own(out, Files::new(rows, 8).owner(c));
+    show_own(out, Files::by_rows(rows, 8).owner(c));
     out.line_end();
 }
 
-fn owners_of(out: &mut Output<impl Write>, starts: &[u16], sizes: &[u32], clusters: &[u32]) {
+fn owners_of(out: &mut Output<impl Write>, rows: &[VF], clusters: &[u32]) {
     for c in clusters {
-        show_owner(out, starts, sizes, *c);
+        show_owner(out, rows, *c);
+    }
+}
+
+fn file(vstart: u16, vsize: u32) -> VF {
+    VF {
+        id: 0,
+        slot: 0,
+        vstart,
+        src: 0,
+        ssize: 0,
+        vsize,
     }
 }
 
@@ -84,8 +93,12 @@ fn owners(out: &mut Output<impl Write>) {
     ];
     owners_of(
         out,
-        &[100u16, 102, 103, 65001],
-        &[32769u32, 0, 917504, 1],
+        &[
+            file(100, 32769),
+            file(102, 0),
+            file(103, 917504),
+            file(65001, 1),
+        ],
         &clusters,
     );
 }
@@ -94,8 +107,7 @@ fn owners(out: &mut Output<impl Write>) {
 fn owners_unsorted(out: &mut Output<impl Write>) {
     owners_of(
         out,
-        &[200u16, 100, 150],
-        &[65536u32, 3276800, 32768],
+        &[file(200, 65536), file(100, 3276800), file(150, 32768)],
         &[149u32, 150, 151, 201],
     );
 }

@@ -1,5 +1,5 @@
 // Tables that a start takes or not.
-use file_table::table_ok;
+use file_table::{VF, table_ok};
 use printed::Output;
 use std::io::Write;
 
@@ -12,6 +12,35 @@ const STARTS: [u16; 3] = [100, 102, 200];
 
 const SIZES: [u32; 3] = [32769, 0, 32768];
 
+const NO_FILE: VF = VF {
+    id: 0,
+    slot: 0,
+    vstart: 0,
+    src: 0,
+    ssize: 0,
+    vsize: 0,
+};
+
+// Does a start take the table with these columns. Columns of different lengths are those of no table.
+fn columns_ok(ids: &[u16], slots: &[u16], starts: &[u16], sizes: &[u32], first: u32) -> bool {
+    let n = ids.len();
+    if slots.len() != n || starts.len() != n || sizes.len() != n || 401 < n {
+        return false;
+    }
+    let mut rows = [NO_FILE; 401];
+    for j in 0..n {
+        rows[j] = VF {
+            id: ids[j],
+            slot: slots[j],
+            vstart: starts[j],
+            src: 0,
+            ssize: 0,
+            vsize: sizes[j],
+        };
+    }
+    table_ok(&rows[..n], first)
+}
+
 fn show(
     out: &mut Output<impl Write>,
     name: &[u8],
@@ -23,7 +52,7 @@ fn show(
 ) {
     out.text(b"table ");
     out.text(name);
-    out.answer(table_ok(&ids, &slots, &starts, &sizes, first) as u64);
+    out.answer(columns_ok(&ids, &slots, &starts, &sizes, first) as u64);
 }
 
 fn with_ids(out: &mut Output<impl Write>, name: &[u8], ids: [u16; 3]) {
@@ -103,17 +132,17 @@ fn column_lengths(out: &mut Output<impl Write>) {
     let starts = [100u16, 200];
     let sizes = [1u32, 1];
     out.text(b"table columns of one length");
-    out.answer(table_ok(&ids, &slots, &starts, &sizes, 8) as u64);
+    out.answer(columns_ok(&ids, &slots, &starts, &sizes, 8) as u64);
     out.text(b"table short slots");
-    out.answer(table_ok(&ids, &slots[..1], &starts, &sizes, 8) as u64);
+    out.answer(columns_ok(&ids, &slots[..1], &starts, &sizes, 8) as u64);
     out.text(b"table short starts");
-    out.answer(table_ok(&ids, &slots, &starts[..1], &sizes, 8) as u64);
+    out.answer(columns_ok(&ids, &slots, &starts[..1], &sizes, 8) as u64);
     out.text(b"table short sizes");
-    out.answer(table_ok(&ids, &slots, &starts, &sizes[..1], 8) as u64);
+    out.answer(columns_ok(&ids, &slots, &starts, &sizes[..1], 8) as u64);
     out.text(b"table short ids");
-    out.answer(table_ok(&ids[..1], &slots, &starts, &sizes, 8) as u64);
+    out.answer(columns_ok(&ids[..1], &slots, &starts, &sizes, 8) as u64);
     out.text(b"table no files");
-    out.answer(table_ok(&ids[..0], &slots[..0], &starts[..0], &sizes[..0], 7) as u64);
+    out.answer(columns_ok(&ids[..0], &slots[..0], &starts[..0], &sizes[..0], 7) as u64);
 }
 
 // The numbers from `from` on.
@@ -137,7 +166,7 @@ fn first_rows(
         return;
     }
     out.named(b"table files ", n as u64);
-    out.answer(table_ok(&ids[..n], &slots[..n], &starts[..n], &sizes[..n], 8) as u64);
+    out.answer(columns_ok(&ids[..n], &slots[..n], &starts[..n], &sizes[..n], 8) as u64);
 }
 
 fn many(out: &mut Output<impl Write>) {

@@ -1,16 +1,14 @@
 use mathlib.Core.Path.{sym, ◌∙◌, ap}
 use mathlib.Core.Bool.{not}
 use native.Mathlib.Omega.{arith}
+use Rattle.std.proofs.lemmas.List.{length-map}
 use Rattle.vdisk.specs.OwnerLaws.{owner-is}
+use Rattle.file_table.specs.Files.{start_of}
 use Rattle.clusters.specs.Clusters.{host_cluster, host_own}
-use borrow.Author.Rules.{rules}
 use Rattle.clusters.proofs.host_cluster.Goals as goal
 
-pub owner-requires : goal.owner-requires
-owner-requires c = record { lengths = search rules; rising = search rules }
-
 pub ours_live-requires : goal.ours_live-requires
-ours_live-requires c = omega (arith, (owner-is _ _ _ _ _ (sym c.owner.ensures ∙ c.in-Dyn.is)).row, c.requires.lengths)
+ours_live-requires c = omega (arith, (owner-is _ _ _ _ _ (sym c.owner.ensures ∙ c.in-Dyn.is)).row, length-map c.args.files.now.rows.now start_of)
 
 pub returns-in-Reserved : goal.returns-in-Reserved
 unfolding host_cluster host_own

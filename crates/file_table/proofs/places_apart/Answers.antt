@@ -1,17 +1,22 @@
 use mathlib.Core.Path.{sym, ◌∙◌, ap}
 use mathlib.Core.Bool.{not}
-use Rattle.loops.specs.Loops.{all-go, all-stop, all-end}
+use Rattle.std.proofs.lemmas.List.{length-map}
+use Rattle.loops.specs.Loops.{all-start, all-go, all-stop, all-end}
+use Rattle.file_table.specs.Files.{id_of}
 use Rattle.file_table.specs.Table.{places_apart}
 use native.Mathlib.Omega.{arith}
 use Rattle.file_table.proofs.places_apart.Goals as goal
 
+pub loop-j-init : goal.loop-j-init
+loop-j-init c = all-start _ _
+
 pub returns-then-shares_place : goal.returns-then-shares_place
 unfolding places_apart
-returns-then-shares_place c = all-stop _ _ _ _ c.loop-j.invariant (omega arith) (ap not (sym c.shares_place.ensures ∙ c.if-shares_place.true))
+returns-then-shares_place c = all-stop _ _ _ _ c.loop-j.invariant (omega (arith, length-map c.args.files.now id_of)) (ap not (sym c.shares_place.ensures ∙ c.if-shares_place.true))
 
 pub loop-j-preserved : goal.loop-j-preserved
-loop-j-preserved c = all-go _ _ _ _ c.loop-j.invariant (omega arith) (ap not (sym c.shares_place.ensures ∙ c.if-shares_place.false))
+loop-j-preserved c = all-go _ _ _ _ c.loop-j.invariant (omega (arith, length-map c.args.files.now id_of)) (ap not (sym c.shares_place.ensures ∙ c.if-shares_place.false))
 
 pub returns : goal.returns
 unfolding places_apart
-returns c = all-end _ _ _ _ c.loop-j.invariant (omega arith)
+returns c = all-end _ _ _ _ c.loop-j.invariant (omega (arith, length-map c.args.files.now id_of))
