@@ -84,9 +84,9 @@ fn summed_up(sum: Sum, p: &[u8], at: u32) -> Sum
 }
 
 // A sector is read where block `q` of the file is its first.
-fn read_first(fat: &[u16], area: &[u8], x: St, q: u32, sec: &mut [u8])
+fn read_first(fat: &[u16], area: &[u8], x: &St, q: u32, sec: &mut [u8])
     requires { length sec.old ≡ 512 }
-    ensures { sec.new ≡ pick (eqb (q % 4) 0) (sector_of fat.now area.now x (q / 4 % 64)) sec.old }
+    ensures { sec.new ≡ pick (eqb (q % 4) 0) (sector_of fat.now area.now x.now (q / 4 % 64)) sec.old }
 {
     if q % 4 != 0 {
         return;
@@ -95,9 +95,9 @@ fn read_first(fat: &[u16], area: &[u8], x: St, q: u32, sec: &mut [u8])
 }
 
 // Every block decodes, the word at 4 is the size without the header, and the CRC is the low half of the word at 8.
-fn check(fat: &[u16], area: &[u8], st: [St; NST], chain: Chain, size: u32) -> bool
+fn check(fat: &[u16], area: &[u8], st: &[St; NST], chain: Chain, size: u32) -> bool
     requires { (128 ≤ size) × HoldsFile chain size }
-    ensures { result ≡ body_fits size (file_bytes fat.now area.now st chain size) }
+    ensures { result ≡ body_fits size (file_bytes fat.now area.now st.now chain size) }
 {
     let blocks = (size + 127) / 128;
     let mut sec = [0u8; 512];
@@ -108,10 +108,9 @@ fn check(fat: &[u16], area: &[u8], st: [St; NST], chain: Chain, size: u32) -> bo
     };
     for q in 0..blocks {
         let i = chain.slots[(q / 4 / SPC) as usize] as usize;
-        let x = st[i];
-        read_first(fat, area, x, q, &mut sec);
+        read_first(fat, area, &st[i], q, &mut sec);
         let from = (q % 4) as usize * 128;
-        let end = from + num::min_u32(size - q * 128, 128) as usize;
+        let end = from + (size - q * 128).min(128) as usize;
         if !decode_block(&mut sec[from..end]) {
             return false;
         }
@@ -127,13 +126,13 @@ fn check(fat: &[u16], area: &[u8], st: [St; NST], chain: Chain, size: u32) -> bo
 pub fn body(
     fat: &[u16],
     area: &[u8],
-    pair: [Pair; NPAIR],
-    st: [St; NST],
+    pair: &[Pair; NPAIR],
+    st: &[St; NST],
     start: u32,
     size: u32,
 ) -> Result<bool, Refusal>
-    ensures number { told result ≡ (body_of fat.now area.now pair st start size).no }
-    ensures valid { value_or false result ≡ (body_of fat.now area.now pair st start size).valid }
+    ensures number { told result ≡ (body_of fat.now area.now pair.now st.now start size).no }
+    ensures valid { value_or false result ≡ (body_of fat.now area.now pair.now st.now start size).valid }
 {
     if size < 128 {
         return Err(Refusal::BodySize);

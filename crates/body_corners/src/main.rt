@@ -64,8 +64,8 @@ fn check(out: &mut Output<impl Write>, line: &[u8], area: &[u8]) {
     let b = body::body(
         &[1; 18],
         area,
-        pairs(size, last),
-        slots(map, block),
+        &pairs(size, last),
+        &slots(map, block),
         start,
         size,
     );

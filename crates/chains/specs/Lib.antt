@@ -4,4 +4,3 @@ pub mod Needed
 pub mod Walk
 pub mod WalkLaws
 pub mod ChainLaws
-pub mod Column

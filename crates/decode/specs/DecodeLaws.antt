@@ -11,10 +11,6 @@ use Rattle.loops.specs.Rows.{rows-at, rows-length}
 use Rattle.bits.specs.Xor.{xor-assoc}
 use Rattle.decode.specs.Decode.{added_at, added, key_at, key_of, is_short, decodes, decoded_with, decoded}
 
--- a byte taken away, going round below 0, is the one that added to it gives back what there was
-pub taken-away : (r x b : ℕ) → r < 256 → x < 256 → b < 256 → (r + b) % 2 ^ 8 ≡ x → r ≡ (x + 256 - b) % 256
-taken-away r x b h g f e = omega arith
-
 -- a block keeps its length
 pub decoded-length : (p : List ℕ) → length (decoded p) ≡ length p
 unfolding decoded
@@ -36,7 +32,9 @@ unfolding decoded_with
 stays-at p i h t = byte-at p i h ∙ both (is_short p) (decodes p)
   where
     both : (a b : Bool)
-        → pick a (slice_index p i) (pick b (pick (i == added_at || i == key_at (added p)) (slice_index p i) ((bit_xor (slice_index p i) (key_of p) + 256 - added p) % 256)) (slice_index p i)) ≡ slice_index p i
+        → pick a (slice_index p i)
+        (pick b (pick (i == added_at || i == key_at (added p)) (slice_index p i) ((bit_xor (slice_index p i) (key_of p) + 256 - added p) % 256)) (slice_index p i))
+        ≡ slice_index p i
     both true b = refl
     both false true = rw t
     both false false = refl

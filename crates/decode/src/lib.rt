@@ -29,7 +29,7 @@ fn decoded_byte(i: usize, b: u8, kp: usize, k: u8, a: u8) -> u8
     if i == kp {
         return b;
     }
-    std::num::wrapping_sub_u8(b ^ k, a)
+    (b ^ k).wrapping_sub(a)
 }
 
 fn decode_bytes(p: &mut [u8], kp: usize, k: u8, a: u8)

@@ -55,7 +55,7 @@ pub fn next_free(fat: &[u16], hint: u32) -> NextFree
     ensures block { result.block ≡ pick (next_free fat.now hint).found (Some (next_free fat.now hint).block) None }
     ensures hint { result.hint ≡ (next_free fat.now hint).hint }
 {
-    let from = num::max_u32(hint, 2);
+    let from = hint.max(2);
     for i in from as usize..fat.len() {
         if fat[i] == 0 {
             return NextFree {
@@ -66,6 +66,6 @@ pub fn next_free(fat: &[u16], hint: u32) -> NextFree
     }
     NextFree {
         block: None,
-        hint: num::max_u32(from, fat.len() as u32),
+        hint: from.max(fat.len() as u32),
     }
 }

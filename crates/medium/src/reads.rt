@@ -23,9 +23,9 @@ fn block_sector(area: &[u8], b: usize, q: usize) -> &[u8]
 }
 
 // The block that a slot holds for sector `s`, 0 where the sector was not written.
-fn held_block(x: St, s: u32) -> usize
+fn held_block(x: &St, s: u32) -> usize
     requires { s < 64 }
-    ensures { result ≡ pick (bit x.map s) (held_block x s) 0 }
+    ensures { result ≡ pick (bit x.now.map s) (held_block x.now s) 0 }
 {
     if !bits::test_u64(x.map, s) {
         return 0;
@@ -35,31 +35,31 @@ fn held_block(x: St, s: u32) -> usize
 }
 
 // Sector `s` of a staged cluster into `out`.
-pub fn read_sector(fat: &[u16], area: &[u8], x: St, s: u32, out: &mut [u8])
+pub fn read_sector(fat: &[u16], area: &[u8], x: &St, s: u32, out: &mut [u8])
     requires { (s < 64) × (length out.old ≡ 512) }
-    ensures { out.new ≡ sector_of fat.now area.now x s }
+    ensures { out.new ≡ sector_of fat.now area.now x.now s }
 {
     let b = held_block(x, s);
     if !has_block(fat, area, b) {
-        sector::fill(out, 0);
+        out.fill(0);
         return;
     }
     let part = block_sector(area, b, (s % 8) as usize);
-    sector::copy(out, part);
+    out.copy_from_slice(part);
 }
 
 // Sector `s` of cluster `c` if the host wrote data there, zeros where it wrote none. Says whether the cluster is staged.
 pub fn staged_read(
-    st: [St; NST],
+    st: &[St; NST],
     fat: &[u16],
     area: &[u8],
     c: u32,
     s: u32,
     out: &mut [u8],
 ) -> Result<bool, Refusal>
-    ensures number { told result ≡ (staged_answer st c s out.old).no }
-    ensures staged { value_or false result ≡ (staged_answer st c s out.old).staged }
-    ensures bytes { out.new ≡ staged_bytes fat.now area.now st c s out.old }
+    ensures number { told result ≡ (staged_answer st.now c s out.old).no }
+    ensures staged { value_or false result ≡ (staged_answer st.now c s out.old).staged }
+    ensures bytes { out.new ≡ staged_bytes fat.now area.now st.now c s out.old }
 {
     if out.len() != 512 {
         return Err(Refusal::SectorLength);
@@ -70,15 +70,14 @@ pub fn staged_read(
     let Some(i) = state::staged::slot_of(st, c) else {
         return Ok(false);
     };
-    let x = st[i];
-    read_sector(fat, area, x, s, out);
+    read_sector(fat, area, &st[i], s, out);
     Ok(true)
 }
 
 // Does sector `s` of a staged cluster hold an ordinary slot with that start and length.
-fn sector_names(fat: &[u16], area: &[u8], x: St, s: u32, start: u16, size: u32) -> bool
+fn sector_names(fat: &[u16], area: &[u8], x: &St, s: u32, start: u16, size: u32) -> bool
     requires { s < 64 }
-    ensures { result ≡ refers_to (sector_of fat.now area.now x s) start size }
+    ensures { result ≡ refers_to (sector_of fat.now area.now x.now s) start size }
 {
     let b = held_block(x, s);
     if !has_block(fat, area, b) {
@@ -87,8 +86,8 @@ fn sector_names(fat: &[u16], area: &[u8], x: St, s: u32, start: u16, size: u32) 
     slots::refers::refers(block_sector(area, b, (s % 8) as usize), start, size)
 }
 
-fn slot_names(fat: &[u16], area: &[u8], x: St, start: u16, size: u32) -> bool
-    ensures { result ≡ slot_names fat.now area.now x start size }
+fn slot_names(fat: &[u16], area: &[u8], x: &St, start: u16, size: u32) -> bool
+    ensures { result ≡ slot_names fat.now area.now x.now start size }
 {
     if x.c == 0 {
         return false;
@@ -102,11 +101,11 @@ fn slot_names(fat: &[u16], area: &[u8], x: St, start: u16, size: u32) -> bool
 }
 
 // Does any staged sector.
-pub fn moved_ref(fat: &[u16], area: &[u8], st: [St; NST], start: u16, size: u32) -> bool
-    ensures { result ≡ moved_ref fat.now area.now st start size }
+pub fn moved_ref(fat: &[u16], area: &[u8], st: &[St; NST], start: u16, size: u32) -> bool
+    ensures { result ≡ moved_ref fat.now area.now st.now start size }
 {
-    for x in &st {
-        if slot_names(fat, area, *x, start, size) {
+    for x in st {
+        if slot_names(fat, area, x, start, size) {
             return true;
         }
     }

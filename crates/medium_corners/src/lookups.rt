@@ -2,7 +2,7 @@
 use crate::place;
 use printed::Output;
 use records::Rec;
-use state::pairs::set_pair;
+use state::pairs;
 use state::w::{Pair, St, W, initial_state};
 use std::io::Write;
 
@@ -25,17 +25,15 @@ fn show_value(out: &mut Output<impl Write>, p: Option<u16>) {
 
 // Where the pair and the staging slot of cluster `c` are, and how many places are free.
 fn show(out: &mut Output<impl Write>, name: &[u8], w: W, c: u32) {
-    let pair = w.pair;
-    let st = w.st;
     out.text(name);
     out.named(b", cluster ", c as u64);
     out.text(b": pair at");
-    place(out, state::pairs::pair_idx(pair, c));
-    show_value(out, state::pairs::pair_of(pair, c));
+    place(out, pairs::pair_idx(&w.pair, c));
+    show_value(out, pairs::pair_of(&w.pair, c));
     out.text(b" slot at");
-    place(out, state::staged::slot_of(st, c));
-    out.named(b" free ", state::pairs::free_pairs(pair) as u64);
-    out.answer(state::staged::free_slots(st) as u64);
+    place(out, state::staged::slot_of(&w.st, c));
+    out.named(b" free ", pairs::free_pairs(&w.pair) as u64);
+    out.answer(state::staged::free_slots(&w.st) as u64);
 }
 
 fn show_clusters(out: &mut Output<impl Write>, name: &[u8], w: W, clusters: &[u32]) {
@@ -45,12 +43,12 @@ fn show_clusters(out: &mut Output<impl Write>, name: &[u8], w: W, clusters: &[u3
 }
 
 fn show_rec(out: &mut Output<impl Write>, name: &[u8], rec: [Rec; 10], idx: usize) {
-    let r = records::root_rec(rec, idx);
+    let r = records::root_rec(&rec, idx);
     out.text(name);
     out.text(b", root slot");
     out.number(idx as u64);
     out.text(b": record at");
-    place(out, records::rec_idx(rec, idx));
+    place(out, records::rec_idx(&rec, idx));
     out.text(b" bytes");
     out.number(r.is_some() as u64);
     let e = r.unwrap_or([0u8; 32]);
@@ -67,18 +65,15 @@ fn show_recs(out: &mut Output<impl Write>, name: &[u8], rec: [Rec; 10], slots: &
 
 // The first free places, and how many records' are free.
 fn show_free(out: &mut Output<impl Write>, name: &[u8], w: W) {
-    let pair = w.pair;
-    let st = w.st;
-    let rec = w.rec;
     out.text(name);
     out.text(b", first free: pair");
-    place(out, state::pairs::free_pair(pair));
+    place(out, pairs::free_pair(&w.pair));
     out.text(b" slot");
-    place(out, state::staged::free_slot(st));
+    place(out, state::staged::free_slot(&w.st));
     out.text(b" record");
-    place(out, records::free_rec(rec));
+    place(out, records::free_rec(&w.rec));
     out.text(b" of");
-    out.answer(records::free_recs(rec) as u64);
+    out.answer(records::free_recs(&w.rec) as u64);
 }
 
 fn show_state(out: &mut Output<impl Write>, name: &[u8], w: W) {
@@ -157,18 +152,23 @@ fn show_slot(out: &mut Output<impl Write>, s: St) {
     out.answer(b as u64);
 }
 
+fn paired(mut w: W, c: u16, v: u16) -> W {
+    pairs::set_pair(&mut w, c, v);
+    w
+}
+
 fn set_few(out: &mut Output<impl Write>) {
-    let w = set_pair(initial_state(8), 9, 10);
+    let w = paired(initial_state(8), 9, 10);
     show(out, b"first pair", w, 9);
-    let more = set_pair(w, 65535, 65535);
+    let more = paired(w, 65535, 65535);
     show(out, b"second pair", more, 65535);
     show(out, b"second pair", more, 9);
-    let changed = set_pair(more, 9, 1);
+    let changed = paired(more, 9, 1);
     show(out, b"changed pair", changed, 9);
-    let removed = set_pair(changed, 9, 0);
+    let removed = paired(changed, 9, 0);
     show(out, b"removed pair", removed, 9);
     show(out, b"removed pair", removed, 65535);
-    let cluster0 = set_pair(w, 0, 5);
+    let cluster0 = paired(w, 0, 5);
     show(out, b"pair of cluster 0", cluster0, 0);
     let p = cluster0.pair[1];
     show_pair(out, p);
@@ -176,31 +176,31 @@ fn set_few(out: &mut Output<impl Write>) {
 
 fn set_removed(out: &mut Output<impl Write>) {
     let w = repeated();
-    let removed = set_pair(w, 9, 0);
+    let removed = paired(w, 9, 0);
     show(out, b"one of two removed", removed, 9);
     show(out, b"one of two removed", removed, 8);
     let s = removed.st[2];
     show_slot(out, s);
-    let again = set_pair(removed, 9, 0);
+    let again = paired(removed, 9, 0);
     show(out, b"two of two removed", again, 9);
     let mut none = initial_state(8);
     none.st[2] = staged(9, 0);
-    show(out, b"removed where none is", set_pair(none, 9, 0), 9);
+    show(out, b"removed where none is", paired(none, 9, 0), 9);
 }
 
 fn set_full(out: &mut Output<impl Write>) {
     let mut w = full();
     w.pair[3] = Pair { c: 13, v: 1 };
     w.pair[5] = Pair { c: 15, v: 1 };
-    show(out, b"41st pair", set_pair(w, 500, 7), 500);
-    show(out, b"changed pair of 40", set_pair(w, 15, 7), 15);
-    let freed = set_pair(set_pair(w, 15, 0), 13, 0);
+    show(out, b"41st pair", paired(w, 500, 7), 500);
+    show(out, b"changed pair of 40", paired(w, 15, 7), 15);
+    let freed = paired(paired(w, 15, 0), 13, 0);
     show(out, b"two of 40 removed", freed, 15);
-    let reused = set_pair(freed, 500, 7);
+    let reused = paired(freed, 500, 7);
     show(out, b"one place reused", reused, 500);
-    let both = set_pair(reused, 501, 8);
+    let both = paired(reused, 501, 8);
     show(out, b"both places reused", both, 501);
-    show(out, b"no place left", set_pair(both, 502, 9), 502);
+    show(out, b"no place left", paired(both, 502, 9), 502);
 }
 
 pub(crate) fn all(out: &mut Output<impl Write>) {

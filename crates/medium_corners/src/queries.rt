@@ -7,20 +7,20 @@ fn show_fat1(out: &mut Output<impl Write>, v: u32) {
     let mut w = initial_state(8);
     w.fat1 = v;
     out.named(b"fat1 ", v as u64);
-    out.answer(state::queries::fat1(w) as u64);
+    out.answer(state::queries::fat1(&w) as u64);
 }
 
 fn show_boot(out: &mut Output<impl Write>, v: u8) {
     let mut w = initial_state(8);
     w.boot = v;
     out.named(b"boot_state ", v as u64);
-    out.answer(state::queries::boot_state(w) as u64);
+    out.answer(state::queries::boot_state(&w) as u64);
 }
 
 fn show_frozen(out: &mut Output<impl Write>, name: &[u8], w: W, mounted: bool) {
     out.text(b"frozen, ");
     out.text(name);
-    out.answer(state::queries::frozen(w, mounted) as u64);
+    out.answer(state::queries::frozen(&w, mounted) as u64);
 }
 
 // The last write was long ago.

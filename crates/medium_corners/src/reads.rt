@@ -35,7 +35,7 @@ fn show_read(
     out.number(c as u64);
     out.number(s as u64);
     out.number(buffer.len() as u64);
-    let r = medium::reads::staged_read(st, fat, area, c, s, buffer);
+    let r = medium::reads::staged_read(&st, fat, area, c, s, buffer);
     out.text(b":");
     out.number(refusals::told(r) as u64);
     out.number((r == Ok(true)) as u64);
@@ -148,7 +148,7 @@ fn moved(
     area[8190] = 1;
     out.text(b"moved_ref, ");
     out.text(name);
-    out.answer(medium::reads::moved_ref(&[0, 0, 1, 1], &area[..end], st, start, size) as u64);
+    out.answer(medium::reads::moved_ref(&[0, 0, 1, 1], &area[..end], &st, start, size) as u64);
 }
 
 fn by_staged(out: &mut Output<impl Write>, name: &[u8], c: u16, map: u64, last: u16) {

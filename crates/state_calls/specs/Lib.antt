@@ -1,3 +1,2 @@
 -- The answers of the calls that only read.
 pub mod Answers
-pub mod AnswerLaws

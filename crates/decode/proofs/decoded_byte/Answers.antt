@@ -1,6 +1,5 @@
 use Rattle.std.proofs.Common.{arith, eq-eqb, ne_eqb}
 use Rattle.decode.specs.Decode.{decoded_with}
-use Rattle.decode.specs.DecodeLaws.{taken-away}
 use Rattle.decode.proofs.decoded_byte.Goals as goal
 
 pub returns-then-i-eq-ADD : goal.returns-then-i-eq-ADD
@@ -13,4 +12,4 @@ returns-then-i-kp c = simp (ne_eqb _ _ c.if-i-eq-ADD.false, eq-eqb _ _ c.if-i-kp
 
 pub returns : goal.returns
 unfolding decoded_with
-returns c = simp (ne_eqb _ _ c.if-i-eq-ADD.false, ne_eqb _ _ c.if-i-kp.false) (taken-away _ _ _ (omega arith) (omega arith) (omega arith) c.wrapping_sub_u8.ensures.value)
+returns c = simp (ne_eqb _ _ c.if-i-eq-ADD.false, ne_eqb _ _ c.if-i-kp.false) (omega arith)

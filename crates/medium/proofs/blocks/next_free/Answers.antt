@@ -26,7 +26,7 @@ ended fat hint i inv h b =
 
 pub loop-i-init : goal.loop-i-init
 unfolding search_end
-loop-i-init c = rw c.max_u32-from.ensures
+loop-i-init c = rw c.max-from.ensures
 
 pub returns-then-fat-i-eq0 : goal.returns-then-fat-i-eq0
 unfolding next_free
@@ -41,8 +41,8 @@ pub returns : goal.returns
 unfolding next_free
 returns c =
     let fat = c.args.fat.now in
-    let m = c.max_u32-from.ensures in
+    let m = c.max-from.ensures in
     let e = ended fat c.args.hint c.loop-i.i c.loop-i.invariant c.loop-i-test.false (λ q. c.loop-i.auto.i-end (omega arith)) in
     let t = le-ltb (search_end fat c.args.hint) (length fat) (omega (arith, e)) in
-    let r : c.max_u32.result ≡ search_end fat c.args.hint = omega (arith, e) in
+    let r : c.max.result ≡ search_end fat c.args.hint = omega (arith, e) in
     record { block = simp t; hint = simp t r }

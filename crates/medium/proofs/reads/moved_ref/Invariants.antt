@@ -8,5 +8,5 @@ use Rattle.medium.proofs.reads.moved_ref.Given as goal
 
 abbrev pub invariant-loop-x : goal.invariant-loop-x
 invariant-loop-x l =
-    some (λ k. slot_names l.fat l.area (get_or l.x-items k no_st) l.start l.size) max_slots 0
-    ≡ some (λ k. slot_names l.fat l.area (get_or l.x-items k no_st) l.start l.size) (max_slots - l.x-index) l.x-index
+    some (λ k. slot_names l.fat l.area (get_or l.st k no_st) l.start l.size) max_slots 0
+    ≡ some (λ k. slot_names l.fat l.area (get_or l.st k no_st) l.start l.size) (max_slots - l.x-index) l.x-index

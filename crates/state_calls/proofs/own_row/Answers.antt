@@ -1,6 +1,6 @@
 use mathlib.Core.Path.{sym, ap}
 use Rattle.state_calls.specs.Answers.{own_answer}
-use Rattle.state_calls.proofs.own_answer.Goals as goal
+use Rattle.state_calls.proofs.own_row.Goals as goal
 
 pub returns-in-Reserved : goal.returns-in-Reserved
 unfolding own_answer
