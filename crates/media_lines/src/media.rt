@@ -25,7 +25,7 @@ pub fn medium(
     let entries = n.value as usize;
     let bytes = len.value as usize;
     fill_entries(fat, 0, entries, 0);
-    sector::fill(&mut area[..bytes], v.value as u8);
+    area[..bytes].fill(v.value as u8);
     Some(with_medium(
         s,
         Medium {

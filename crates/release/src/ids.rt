@@ -31,9 +31,9 @@ fn settle_ids(files: &mut [VF])
 }
 
 // A moved file that a staged sector names is freed first; then each row is settled.
-pub fn release_ids(files: &mut [VF], fat: &[u16], area: &[u8], st: [St; NST])
+pub fn release_ids(files: &mut [VF], fat: &[u16], area: &[u8], st: &[St; NST])
     requires { length files.old ≤ max_files }
-    ensures { files.new ≡ with_ids files.old (released_ids (files_lending fat.now area.now files.old) st) }
+    ensures { files.new ≡ with_ids files.old (released_ids (files_lending fat.now area.now files.old) st.now) }
 {
     note_staged(files, fat, area, st);
     settle_ids(files);

@@ -56,7 +56,7 @@ pub fn release_all(
     if MAX_VF < files.len() {
         return Err(Refusal::Table);
     }
-    release_ids(files, fat, area, w.st);
+    release_ids(files, fat, area, &w.st);
     let had = had_any(w);
     settle_state(w, reset);
     Ok(Ended {

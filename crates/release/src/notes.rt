@@ -96,9 +96,9 @@ fn note_sector(files: &mut [VF], waiting: &[u16], d: &[u8])
 }
 
 // The rows that sector `s` of a staged cluster names; none where it was not written or holds no block.
-fn note_staged_sector(files: &mut [VF], waiting: &[u16], fat: &[u16], area: &[u8], x: St, s: u32)
+fn note_staged_sector(files: &mut [VF], waiting: &[u16], fat: &[u16], area: &[u8], x: &St, s: u32)
     requires { InTable (length files.old) waiting.now × (s < 64) }
-    ensures { files.new ≡ noted_files (listed waiting.now (by_sector (map start_of files.old) (map size_of files.old) (sector_of fat.now area.now x s))) files.old }
+    ensures { files.new ≡ noted_files (listed waiting.now (by_sector (map start_of files.old) (map size_of files.old) (sector_of fat.now area.now x.now s))) files.old }
 {
     if !bits::test_u64(x.map, s) {
         return;
@@ -114,9 +114,9 @@ fn note_staged_sector(files: &mut [VF], waiting: &[u16], fat: &[u16], area: &[u8
     note_sector(files, waiting, &whole[at..end]);
 }
 
-fn note_cluster(files: &mut [VF], waiting: &[u16], fat: &[u16], area: &[u8], x: St)
+fn note_cluster(files: &mut [VF], waiting: &[u16], fat: &[u16], area: &[u8], x: &St)
     requires { InTable (length files.old) waiting.now }
-    ensures { files.new ≡ noted_files (listed waiting.now (by_cluster (map start_of files.old) (map size_of files.old) fat.now area.now x)) files.old }
+    ensures { files.new ≡ noted_files (listed waiting.now (by_cluster (map start_of files.old) (map size_of files.old) fat.now area.now x.now)) files.old }
 {
     if x.c == 0 {
         return;
@@ -127,9 +127,9 @@ fn note_cluster(files: &mut [VF], waiting: &[u16], fat: &[u16], area: &[u8], x: 
 }
 
 // Nothing is read where no row waits.
-pub fn note_staged(files: &mut [VF], fat: &[u16], area: &[u8], st: [St; NST])
+pub fn note_staged(files: &mut [VF], fat: &[u16], area: &[u8], st: &[St; NST])
     requires { length files.old ≤ max_files }
-    ensures { files.new ≡ noted_files (by_staged (map start_of files.old) (map size_of files.old) fat.now area.now st) files.old }
+    ensures { files.new ≡ noted_files (by_staged (map start_of files.old) (map size_of files.old) fat.now area.now st.now) files.old }
 {
     let w = list_waiting(files);
     let n = w.n;
@@ -137,8 +137,7 @@ pub fn note_staged(files: &mut [VF], fat: &[u16], area: &[u8], st: [St; NST])
     if n == 0 {
         return;
     }
-    for i in 0..NST {
-        let x = st[i];
+    for x in st {
         note_cluster(files, &waiting[..n], fat, area, x);
     }
 }

@@ -1,13 +1,10 @@
 // The state that a release leaves.
-ghost use Rattle.std.specs.Prelude.{◌≡◌, not, ◌&&◌, ◌||◌, eqb, get_or};
-ghost use Rattle.loops.specs.Loops.{some};
-ghost use Rattle.records.specs.Records.{max_records, no_rec};
-ghost use Rattle.state.specs.State.{max_pairs, pair0};
+ghost use Rattle.std.specs.Prelude.{◌≡◌, not, ◌&&◌, ◌||◌, eqb};
 ghost use Rattle.release.specs.Release.{emptied, released_state, had_any, held_back};
 
-use crate::undecided::any_staged;
+use records::places::any_used;
 use records::{NREC, Rec};
-use state::w::{BPC, Done, NPAIR, NST, Pair, St, W};
+use state::w::{Done, NPAIR, NST, Pair, St, W};
 
 // No pair, record, staged cluster, boot byte or FAT[1].
 fn empty(w: &mut W)
@@ -18,13 +15,7 @@ fn empty(w: &mut W)
         e: [0u8; 32],
     };
     let pair0 = Pair { c: 0, v: 0 };
-    let st0 = St {
-        c: 0,
-        sealed: false,
-        ro: 0,
-        map: 0,
-        blk: [0u16; BPC],
-    };
+    let st0 = St::unused();
     let rec = [rec0; NREC];
     let pair = [pair0; NPAIR];
     let st = [st0; NST];
@@ -73,28 +64,6 @@ pub fn settle_state(w: &mut W, reset: bool)
     w.locks = keeps_locks(w.locks, reset);
 }
 
-fn any_rec(rec: [Rec; NREC]) -> bool
-    ensures { result ≡ some (λ i. not (eqb (get_or rec i no_rec).slot 0)) max_records 0 }
-{
-    for i in 0..NREC {
-        if rec[i].slot != 0 {
-            return true;
-        }
-    }
-    false
-}
-
-fn any_pair(pair: [Pair; NPAIR]) -> bool
-    ensures { result ≡ some (λ i. not (eqb (get_or pair i pair0).c 0)) max_pairs 0 }
-{
-    for i in 0..NPAIR {
-        if pair[i].c != 0 {
-            return true;
-        }
-    }
-    false
-}
-
 // Was there anything to release.
 pub fn had_any(w: &W) -> bool
     ensures { result ≡ had_any w.now }
@@ -108,16 +77,13 @@ pub fn had_any(w: &W) -> bool
     if w.fat1 != 0 {
         return true;
     }
-    let rec = w.rec;
-    if any_rec(rec) {
+    if any_used(&w.rec) {
         return true;
     }
-    let pair = w.pair;
-    if any_pair(pair) {
+    if any_used(&w.pair) {
         return true;
     }
-    let st = w.st;
-    any_staged(st)
+    any_used(&w.st)
 }
 
 // Put off: the end is held back from now on, if it wasn't already.
@@ -125,6 +91,6 @@ pub fn hold_back(w: &mut W)
     ensures { w.new ≡ held_back w.old }
 {
     if w.end_at == 0 {
-        w.end_at = num::max_u64(w.now_ms, 1);
+        w.end_at = w.now_ms.max(1);
     }
 }

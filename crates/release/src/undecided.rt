@@ -2,12 +2,12 @@
 ghost use Rattle.std.specs.Prelude.{◌≡◌, not, ◌&&◌, eqb, length, get_or};
 ghost use Rattle.loops.specs.Loops.{some};
 ghost use Rattle.records.specs.Records.{max_records, no_rec};
-ghost use Rattle.state.specs.State.{max_slots, no_st};
 ghost use Rattle.release.specs.Undecided.{is_file, is_named, is_update, is_decided, is_undecided};
 
+use records::places::any_used;
 use records::{NREC, Rec};
 use slots::fields::{attr, is_long, update_name};
-use state::w::{Done, NST, St, W};
+use state::w::{Done, W};
 
 // Is the slot one in use and a file's: no long entry, attribute bits 3 and 4 clear.
 fn is_file(e: &[u8]) -> bool
@@ -71,17 +71,6 @@ fn is_decided(r: Rec, d: Done, ver: u32) -> bool
     ver == d.ver
 }
 
-pub fn any_staged(st: [St; NST]) -> bool
-    ensures { result ≡ some (λ i. not (eqb (get_or st i no_st).c 0)) max_slots 0 }
-{
-    for i in 0..NST {
-        if st[i].c != 0 {
-            return true;
-        }
-    }
-    false
-}
-
 fn undecided_rec(r: Rec, done: Done, ver: u32) -> bool
     ensures { result ≡ (is_update r && not (is_decided r done ver)) }
 {
@@ -91,12 +80,11 @@ fn undecided_rec(r: Rec, done: Done, ver: u32) -> bool
     !is_decided(r, done, ver)
 }
 
-fn any_undecided(rec: [Rec; NREC], done: Done, ver: u32) -> bool
-    ensures { result ≡ some (λ i. is_update (get_or rec i no_rec) && not (is_decided (get_or rec i no_rec) done ver)) max_records 0 }
+fn any_undecided(rec: &[Rec; NREC], done: Done, ver: u32) -> bool
+    ensures { result ≡ some (λ i. is_update (get_or rec.now i no_rec) && not (is_decided (get_or rec.now i no_rec) done ver)) max_records 0 }
 {
-    for i in 0..NREC {
-        let r = rec[i];
-        if undecided_rec(r, done, ver) {
+    for r in rec {
+        if undecided_rec(*r, done, ver) {
             return true;
         }
     }
@@ -107,10 +95,8 @@ fn any_undecided(rec: [Rec; NREC], done: Done, ver: u32) -> bool
 pub fn is_undecided(w: &W) -> bool
     ensures { result ≡ is_undecided w.now }
 {
-    let st = w.st;
-    if !any_staged(st) {
+    if !any_used(&w.st) {
         return false;
     }
-    let rec = w.rec;
-    any_undecided(rec, w.done, w.ver)
+    any_undecided(&w.rec, w.done, w.ver)
 }

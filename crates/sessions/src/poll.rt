@@ -40,7 +40,7 @@ fn end_due(w: &W) -> bool
     if !is_undecided(w) {
         return true;
     }
-    END_WAIT_MS <= num::saturating_sub_u64(w.now_ms, w.end_at)
+    END_WAIT_MS <= w.now_ms.saturating_sub(w.end_at)
 }
 
 // Is the session of a host that doesn't lock the medium quiet.
@@ -56,7 +56,7 @@ fn is_quiet(w: &W, mounted: bool) -> bool
     if w.locks {
         return false;
     }
-    QUIET_MS <= num::saturating_sub_u64(w.now_ms, w.last)
+    QUIET_MS <= w.now_ms.saturating_sub(w.last)
 }
 
 pub fn poll(

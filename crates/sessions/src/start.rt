@@ -3,7 +3,7 @@ ghost use Rattle.file_table.specs.Table.{columns};
 ghost use Rattle.refusals.specs.Refusals.{told};
 ghost use Rattle.sessions.specs.Calls.{StartsBy};
 
-use file_table::{MAX_VF, VF};
+use file_table::{VF, table_ok};
 use refusals::Refusal;
 use state::w::{W, initial_state};
 
@@ -11,18 +11,7 @@ use state::w::{W, initial_state};
 pub fn start(w: &mut W, files: &[VF], first: u32) -> Result<(), Refusal>
     ensures { StartsBy (columns files.now first) w.old (told result) w.new }
 {
-    let n = files.len();
-    if MAX_VF < n {
-        return Err(Refusal::Table);
-    }
-    let c = files::load(files);
-    if !file_table::table_ok(
-        &c.ids[..n],
-        &c.slots[..n],
-        &c.starts[..n],
-        &c.sizes[..n],
-        first,
-    ) {
+    if !table_ok(files, first) {
         return Err(Refusal::Table);
     }
     *w = initial_state(first);

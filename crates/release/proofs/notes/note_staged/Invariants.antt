@@ -10,5 +10,5 @@ use Rattle.release.proofs.notes.note_staged.Given as goal
 abbrev pub names : List ℕ → List ℕ → List ℕ → List ℕ → List ℕ → List St → ℕ → ℕ → Bool
 names waiting starts sizes fat area st j i = listed waiting (by_cluster starts sizes fat area (get_or st i no_st)) j
 
-abbrev pub invariant-loop-i : goal.invariant-loop-i
-invariant-loop-i l = PassedFiles (names (take l.n l.waiting) (map start_of l.initial.files) (map size_of l.initial.files) l.fat l.area l.st) l.i l.initial.files l.files
+abbrev pub invariant-loop-x : goal.invariant-loop-x
+invariant-loop-x l = PassedFiles (names (take l.n l.waiting) (map start_of l.initial.files) (map size_of l.initial.files) l.fat l.area l.st) l.x-index l.initial.files l.files

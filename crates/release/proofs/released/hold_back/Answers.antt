@@ -5,7 +5,7 @@ use Rattle.release.proofs.released.hold_back.Goals as goal
 
 pub returns-then-w-eq0 : goal.returns-then-w-eq0
 unfolding held_back with_end_at
-returns-then-w-eq0 c = simp (eq-eqb _ _ c.if-w-eq0.true, c.max_u64-w.ensures)
+returns-then-w-eq0 c = simp (eq-eqb _ _ c.if-w-eq0.true, c.max-w.ensures)
 
 pub returns-else-w-eq0 : goal.returns-else-w-eq0
 unfolding held_back with_end_at

@@ -13,4 +13,4 @@ returns-then-not-is_undecided c = simp (ne_eqb _ _ c.if-w-eq0.false, sym c.is_un
 
 pub returns : goal.returns
 unfolding end_due
-returns c = simp (ne_eqb _ _ c.if-w-eq0.false, sym c.is_undecided.ensures ∙ c.if-not-is_undecided.false, ← c.saturating_sub_u64.ensures)
+returns c = simp (ne_eqb _ _ c.if-w-eq0.false, sym c.is_undecided.ensures ∙ c.if-not-is_undecided.false, ← c.saturating_sub.ensures)

@@ -15,4 +15,4 @@ returns-then-w c = simp (c.if-mounted.false, c.if-not-w.false, c.if-w.true)
 
 pub returns : goal.returns
 unfolding is_quiet
-returns c = simp (c.if-mounted.false, c.if-not-w.false, c.if-w.false, ← c.saturating_sub_u64.ensures)
+returns c = simp (c.if-mounted.false, c.if-not-w.false, c.if-w.false, ← c.saturating_sub.ensures)
