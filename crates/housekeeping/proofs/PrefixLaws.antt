@@ -1,11 +1,9 @@
 -- The prefixes as the code finds them: cut out of their row, one from each start to the next.
-use Rattle.std.specs.Prelude.{ℕ, zero, suc, ◌+◌, ◌-◌, ◌<◌, ◌≤◌, Bool, true, false, ◌&&◌, ◌||◌, List, [], ◌∷◌, ◌≡◌, refl, leb, eqb, length, get_or, take, drop}
-use Rattle.std.specs.List.{starts_with}
-use Rattle.std.proofs.Common.{sym, ◌∙◌, ap, add-one}
-use Rattle.std.proofs.Math.Dec.{leb-suc-zero, leb-suc-suc}
+use Rattle.std.specs.Prelude.{ℕ, zero, suc, ◌+◌, ◌-◌, ◌<◌, ◌≤◌, Bool, true, ◌&&◌, ◌||◌, List, [], ◌∷◌, ◌≡◌, refl, leb, length, get_or, take, drop}
+use Rattle.std.proofs.Common.{sym, ◌∙◌, ap}
 use native.Mathlib.Omega.{arith}
-use borrow.Author.Tests.{leb-true, le-leb}
-use Rattle.loops.specs.Loops.{pick, all, some, listed}
+use borrow.Author.Tests.{leb-true}
+use Rattle.loops.specs.Loops.{all, some, listed}
 use Rattle.loops.specs.Choices.{and-0, and-1}
 use Rattle.loops.specs.Facts.{all-at}
 use Rattle.housekeeping.specs.Housekeeping.{is_prefix, prefixes, some_prefix, is_housekeeping}
@@ -52,27 +50,3 @@ housekeeping-some name = ap (λ (ps : List (List ℕ)). some_prefix ps name) (sy
 pub row-length : length prefix_bytes ≡ 126
 unfolding prefix_bytes
 row-length = refl
-
-all-shift : (p q : ℕ → Bool) (n i : ℕ) → ((k : ℕ) → p (k + 1) ≡ q k) → all p n (i + 1) ≡ all q n i
-unfolding all
-all-shift p q zero i f = refl
-all-shift p q (suc n) i f = rw (f i, all-shift p q n (i + 1) f)
-
-and-swap : (a b c : Bool) → (a && (b && c)) ≡ (b && pick a c false)
-and-swap true b c = refl
-and-swap false true c = refl
-and-swap false false c = refl
-
--- what a name starts with is a prefix of it
-pub starts-prefix : (p name : List ℕ) → starts_with eqb name p ≡ is_prefix p name
-unfolding is_prefix all
-starts-prefix [] name = rw (le-leb 0 (length name) (omega arith))
-starts-prefix (x ∷ p) [] = rw (leb-suc-zero (length p))
-starts-prefix (x ∷ p) (y ∷ name) =
-    let rest : ℕ → Bool = λ k. eqb (get_or p k 0) (get_or name k 0) in
-    rw (
-      starts-prefix p name,
-      leb-suc-suc (length p) (length name),
-      all-shift (λ k. eqb (get_or (x ∷ p) k 0) (get_or (y ∷ name) k 0)) rest (length p) 0 (λ k. rw (add-one k)),
-    )
-    (and-swap (eqb x y) (leb (length p) (length name)) (all rest (length p) 0))

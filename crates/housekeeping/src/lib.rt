@@ -12,13 +12,21 @@ const PREFIXES: [u8; 126] =
 
 const STARTS: [usize; 11] = [0, 6, 8, 17, 27, 42, 57, 78, 89, 114, 126];
 
-// Is the prefix that stands from `at` to `end` one of the name.
+// Is the prefix that stands from `at` to `end` one of the name. Most names differ in its first byte, so the bytes are looked at one by one.
 fn is_prefix(bytes: &[u8], at: usize, end: usize, name: &[u8]) -> bool
     requires row { bytes.now ≡ prefix_bytes }
     requires part { (at ≤ end) × (end ≤ 126) }
     ensures { result ≡ is_prefix (take (end - at) (drop at prefix_bytes)) name.now }
 {
-    name.starts_with(&bytes[at..end])
+    if name.len() < end - at {
+        return false;
+    }
+    for i in at..end {
+        if bytes[i] != name[i - at] {
+            return false;
+        }
+    }
+    true
 }
 
 // The row and the starts are copied once: read by name in the loop, they would be made anew at each turn.

@@ -2,6 +2,5 @@
 pub mod Names
 pub mod Held
 pub mod NameLaws
-pub mod CopyLaws
 pub mod TextLaws
 pub mod Agree

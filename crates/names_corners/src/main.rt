@@ -13,6 +13,7 @@ use fields::{bytes, digit, three, two};
 use printed::Output;
 use records::{NREC, Rec};
 use root_slots::{rec_ok, strict_name};
+use sector::Sector;
 use std::io;
 use std::io::{Read, Write};
 
@@ -21,7 +22,7 @@ const INPUT_MOST: u64 = 65536;
 
 #[derive(Clone, Copy)]
 struct Root {
-    d: [u8; 512],
+    sector: Sector,
     rec: [Rec; NREC],
 }
 
@@ -31,7 +32,7 @@ fn cleared() -> Root {
         e: [0u8; 32],
     };
     Root {
-        d: [0u8; 512],
+        sector: [0u8; 512],
         rec: [none; NREC],
     }
 }
@@ -39,7 +40,7 @@ fn cleared() -> Root {
 fn with_slot(mut root: Root, line: &[u8]) -> Root {
     let at = two(line, 2) * 32;
     if at <= 480 {
-        root.d[at..at + 32].copy_from_slice(&bytes(line));
+        root.sector[at..at + 32].copy_from_slice(&bytes(line));
     }
     root
 }
@@ -55,49 +56,51 @@ fn with_record(mut root: Root, line: &[u8]) -> Root {
     root
 }
 
-fn show_strict(out: &mut Output<impl Write>, rec: [Rec; NREC], d: &[u8], idx: usize) {
-    let s = strict_name(rec, d, idx);
+fn show_strict(out: &mut Output<impl Write>, rec: &[Rec; NREC], sector: &[u8], idx: usize) {
+    let strict = strict_name(rec, sector, idx);
     out.text(b" strict");
-    out.number(refusals::told(s) as u64);
-    out.number(s.unwrap_or(false) as u64);
+    out.number(refusals::told(strict) as u64);
+    out.number(strict.unwrap_or(false) as u64);
     out.line_end();
 }
 
-fn show_ok(out: &mut Output<impl Write>, rec: [Rec; NREC], d: [u8; 512], idx: usize, host: bool) {
+fn show_ok(
+    out: &mut Output<impl Write>,
+    rec: &[Rec; NREC],
+    sector: &Sector,
+    idx: usize,
+    host: bool,
+) {
     out.text(b" rec_ok");
     if idx < 7 || 512 <= idx {
         out.text(b" -");
         return;
     }
-    out.number(rec_ok(rec, &d, idx / 16 * 16, idx, host) as u64);
+    out.number(rec_ok(rec, sector, idx / 16 * 16, idx, host) as u64);
 }
 
-fn show_name(out: &mut Output<impl Write>, rec: [Rec; NREC], d: [u8; 512], idx: usize) {
+fn show_name(out: &mut Output<impl Write>, rec: &[Rec; NREC], sector: &Sector, idx: usize) {
     let base = idx / 16 * 16;
-    let m = names::entries::entries_read(rec, &d, base, idx);
+    let m = names::entries::entries_read(rec, sector, base, idx);
     if idx < m {
         return;
     }
-    shown::name(out, names::text::name_by(rec, &d, base, idx, m));
+    let name = names::text::name_by(rec, sector, base, idx, m);
+    shown::name(out, &name);
 }
 
-fn query(out: &mut Output<impl Write>, root: Root, line: &[u8]) {
+fn query(out: &mut Output<impl Write>, root: &Root, line: &[u8]) {
     let idx = three(line, 2);
     out.named(b"slot ", idx as u64);
-    let d = root.d;
-    let rec = root.rec;
-    show_name(out, rec, d, idx);
-    show_ok(out, rec, d, idx, digit(line, 6) == 1);
-    show_strict(out, rec, &d, idx);
+    show_name(out, &root.rec, &root.sector, idx);
+    show_ok(out, &root.rec, &root.sector, idx, digit(line, 6) == 1);
+    show_strict(out, &root.rec, &root.sector, idx);
 }
 
-fn query_short(out: &mut Output<impl Write>, root: Root, line: &[u8]) {
+fn query_short(out: &mut Output<impl Write>, root: &Root, line: &[u8]) {
     let idx = three(line, 2);
     out.named(b"slot ", idx as u64);
-    let d = root.d;
-    let rec = root.rec;
-    let short = &d[..511];
-    show_strict(out, rec, short, idx);
+    show_strict(out, &root.rec, &root.sector[..511], idx);
 }
 
 fn bad_line(out: &mut Output<impl Write>) {
@@ -112,8 +115,8 @@ fn after(out: &mut Output<impl Write>, root: Root, line: &[u8]) -> Root {
         b'C' => return cleared(),
         b'S' => return with_slot(root, line),
         b'R' => return with_record(root, line),
-        b'Q' => query(out, root, line),
-        b'L' => query_short(out, root, line),
+        b'Q' => query(out, &root, line),
+        b'L' => query_short(out, &root, line),
         b'#' => {}
         _ => bad_line(out),
     }

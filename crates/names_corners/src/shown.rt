@@ -24,12 +24,11 @@ fn characters(out: &mut Output<impl Write>, t: &[u8]) {
 }
 
 // A name, and whether it is housekeeping.
-pub(crate) fn name(out: &mut Output<impl Write>, read: Name)
-    requires { read.len ≤ 32 }
+pub(crate) fn name(out: &mut Output<impl Write>, read: &Name)
+    requires { read.now.len ≤ 32 }
 {
-    let n = read.len;
-    let chars = read.chars;
+    let text = &read.chars[..read.len];
     out.text(b" name \"");
-    characters(out, &chars[..n]);
-    out.named(b"\" housekeeping ", housekeeping(&chars[..n]) as u64);
+    characters(out, text);
+    out.named(b"\" housekeeping ", housekeeping(text) as u64);
 }

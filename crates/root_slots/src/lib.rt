@@ -2,7 +2,7 @@
 
 #![tactic(auto)]
 
-ghost use Rattle.std.specs.Prelude.{◌≡◌, ℕ, ◌+◌, ◌<◌, ◌≤◌, false, not, ◌&&◌, leb, length};
+ghost use Rattle.std.specs.Prelude.{◌≡◌, ℕ, ◌+◌, ◌<◌, ◌≤◌, false, not, ◌&&◌, leb};
 ghost use Rattle.bits.specs.Bit.{bit};
 ghost use Rattle.slots.specs.Slots.{attr_of, size_of, update_name};
 ghost use Rattle.housekeeping.specs.Housekeeping.{is_housekeeping};
@@ -16,81 +16,81 @@ use names::entries::{entries_read, entries_strict};
 use names::text::{Name, name_by};
 use records::{NREC, Rec};
 use refusals::Refusal;
+use sector::Sector;
 
 // Bytes of an update file at most.
 pub const MAX_UPDATE: u32 = 638988;
 
-fn is_housekeeping(name: Name) -> bool
-    requires { name.len ≤ 32 }
-    ensures { result ≡ is_housekeeping (held name) }
+fn is_housekeeping(name: &Name) -> bool
+    requires { name.now.len ≤ 32 }
+    ensures { result ≡ is_housekeeping (held name.now) }
 {
-    let n = name.len;
-    let chars = name.chars;
-    housekeeping(&chars[..n])
+    housekeeping(&name.chars[..name.len])
 }
 
 // Is the name of root slot `idx`, as `long_name` reads it, housekeeping.
-fn long_housekeeping(rec: [Rec; NREC], d: &[u8], base: usize, idx: usize) -> bool
-    requires { (length d.now ≡ 512) × (base ≤ idx) × (idx < base + 16) × (7 ≤ idx) }
-    ensures { result ≡ is_housekeeping (long_name rec d.now base idx) }
+fn long_housekeeping(rec: &[Rec; NREC], sector: &Sector, base: usize, idx: usize) -> bool
+    requires { (base ≤ idx) × (idx < base + 16) × (7 ≤ idx) }
+    ensures { result ≡ is_housekeeping (long_name rec.now sector.now base idx) }
 {
-    is_housekeeping(name_by(rec, d, base, idx, entries_read(rec, d, base, idx)))
+    let name = name_by(rec, sector, base, idx, entries_read(rec, sector, base, idx));
+    is_housekeeping(&name)
 }
 
 // Is the slot at `at` DM40*.BIN, no directory, of at most 638,988 bytes.
-fn is_update(d: &[u8], at: usize) -> bool
-    requires { at + 32 ≤ length d.now }
-    ensures { result ≡ (not (bit (attr_of d.now at) 4) && update_name d.now at && leb (size_of d.now at) max_update) }
+fn is_update(sector: &Sector, at: usize) -> bool
+    requires { at + 32 ≤ 512 }
+    ensures { result ≡ (not (bit (attr_of sector.now at) 4) && update_name sector.now at && leb (size_of sector.now at) max_update) }
 {
-    let attr = slots::fields::attr(d, at);
+    let attr = slots::fields::attr(sector, at);
     if bits::test_u16(attr as u16, 4) {
         return false;
     }
-    if !slots::fields::update_name(d, at) {
+    if !slots::fields::update_name(sector, at) {
         return false;
     }
-    slots::fields::size(d, at) <= MAX_UPDATE
+    slots::fields::size(sector, at) <= MAX_UPDATE
 }
 
 // A host slot of the root is taken: free, a long entry, a host's own file or directory, or an update file. `host`: its start is 0 or the host's.
-pub fn rec_ok(rec: [Rec; NREC], d: &[u8], base: usize, idx: usize, host: bool) -> bool
-    requires { (length d.now ≡ 512) × (base ≤ idx) × (idx < base + 16) × (7 ≤ idx) }
-    ensures { result ≡ slot_admitted rec d.now base idx host }
+pub fn rec_ok(rec: &[Rec; NREC], sector: &Sector, base: usize, idx: usize, host: bool) -> bool
+    requires { (base ≤ idx) × (idx < base + 16) × (7 ≤ idx) }
+    ensures { result ≡ slot_admitted rec.now sector.now base idx host }
 {
     let at = (idx - base) * 32;
-    if d[at] == 0 {
+    if sector[at] == 0 {
         return false;
     }
-    if d[at] == 0xE5 {
+    if sector[at] == 0xE5 {
         return true;
     }
-    if slots::fields::is_long(d, at) {
+    if slots::fields::is_long(sector, at) {
         return true;
     }
-    let attr = slots::fields::attr(d, at);
+    let attr = slots::fields::attr(sector, at);
     if bits::test_u16(attr as u16, 3) {
         return false;
     }
-    if slots::fields::high(d, at) != 0 {
+    if slots::fields::high(sector, at) != 0 {
         return false;
     }
     if !host {
         return false;
     }
-    if is_update(d, at) {
+    if is_update(sector, at) {
         return true;
     }
-    long_housekeeping(rec, d, base, idx)
+    long_housekeeping(rec, sector, base, idx)
 }
 
 // The strict long name of root slot `idx`, given its sector: is it housekeeping.
-pub fn strict_name(rec: [Rec; NREC], d: &[u8], idx: usize) -> Result<bool, Refusal>
-    ensures number { told result ≡ (strict_of rec d.now idx).no }
-    ensures housekeeping { value_or false result ≡ (strict_of rec d.now idx).housekeeping }
+pub fn strict_name(rec: &[Rec; NREC], sector: &[u8], idx: usize) -> Result<bool, Refusal>
+    ensures number { told result ≡ (strict_of rec.now sector.now idx).no }
+    ensures housekeeping { value_or false result ≡ (strict_of rec.now sector.now idx).housekeeping }
 {
-    if d.len() != 512 {
+    let Some(sector) = sector.as_array::<512>() else {
         return Err(Refusal::SectorLength);
-    }
+    };
     if 512 <= idx {
         return Err(Refusal::PastTheEnd);
     }
@@ -98,6 +98,12 @@ pub fn strict_name(rec: [Rec; NREC], d: &[u8], idx: usize) -> Result<bool, Refus
         return Err(Refusal::OwnRootSlot);
     }
     let base = idx / 16 * 16;
-    let name = name_by(rec, d, base, idx, entries_strict(rec, d, base, idx));
-    Ok(is_housekeeping(name))
+    let name = name_by(
+        rec,
+        sector,
+        base,
+        idx,
+        entries_strict(rec, sector, base, idx),
+    );
+    Ok(is_housekeeping(&name))
 }

@@ -8,23 +8,23 @@ use Rattle.root_slots.specs.OrLaws.{or-none}
 use Rattle.root_slots.specs.RootSlots.{slot_admitted}
 use Rattle.root_slots.proofs.rec_ok.Goals as goal
 
-pub returns-then-d-at-eq0 : goal.returns-then-d-at-eq0
+pub returns-then-sector-at-eq0 : goal.returns-then-sector-at-eq0
 unfolding slot_admitted
-returns-then-d-at-eq0 c = simp (eq-eqb _ _ c.if-d-at-eq0.true)
+returns-then-sector-at-eq0 c = simp (eq-eqb _ _ c.if-sector-at-eq0.true)
 
-pub returns-then-d-at : goal.returns-then-d-at
+pub returns-then-sector-at : goal.returns-then-sector-at
 unfolding slot_admitted
-returns-then-d-at c = simp (ne_eqb _ _ c.if-d-at-eq0.false, eq-eqb _ _ c.if-d-at.true)
+returns-then-sector-at c = simp (ne_eqb _ _ c.if-sector-at-eq0.false, eq-eqb _ _ c.if-sector-at.true)
 
 pub returns-then-is_long : goal.returns-then-is_long
 unfolding slot_admitted
-returns-then-is_long c = simp (ne_eqb _ _ c.if-d-at-eq0.false, ne_eqb _ _ c.if-d-at.false, sym c.is_long.ensures ∙ c.if-is_long.true)
+returns-then-is_long c = simp (ne_eqb _ _ c.if-sector-at-eq0.false, ne_eqb _ _ c.if-sector-at.false, sym c.is_long.ensures ∙ c.if-is_long.true)
 
 pub returns-then-test_u16 : goal.returns-then-test_u16
 unfolding slot_admitted
 returns-then-test_u16 c = simp (
-  ne_eqb _ _ c.if-d-at-eq0.false,
-  ne_eqb _ _ c.if-d-at.false,
+  ne_eqb _ _ c.if-sector-at-eq0.false,
+  ne_eqb _ _ c.if-sector-at.false,
   sym c.is_long.ensures ∙ c.if-is_long.false,
   ← c.attr-attr.ensures,
   sym c.test_u16.ensures ∙ c.if-test_u16.true,
@@ -33,8 +33,8 @@ returns-then-test_u16 c = simp (
 pub returns-then-high-ne0 : goal.returns-then-high-ne0
 unfolding slot_admitted
 returns-then-high-ne0 c = simp (
-  ne_eqb _ _ c.if-d-at-eq0.false,
-  ne_eqb _ _ c.if-d-at.false,
+  ne_eqb _ _ c.if-sector-at-eq0.false,
+  ne_eqb _ _ c.if-sector-at.false,
   sym c.is_long.ensures ∙ c.if-is_long.false,
   ← c.attr-attr.ensures,
   sym c.test_u16.ensures ∙ c.if-test_u16.false,
@@ -44,8 +44,8 @@ returns-then-high-ne0 c = simp (
 pub returns-then-not-host : goal.returns-then-not-host
 unfolding slot_admitted
 returns-then-not-host c = simp (
-  ne_eqb _ _ c.if-d-at-eq0.false,
-  ne_eqb _ _ c.if-d-at.false,
+  ne_eqb _ _ c.if-sector-at-eq0.false,
+  ne_eqb _ _ c.if-sector-at.false,
   sym c.is_long.ensures ∙ c.if-is_long.false,
   ← c.attr-attr.ensures,
   sym c.test_u16.ensures ∙ c.if-test_u16.false,
@@ -56,19 +56,19 @@ returns-then-not-host c = simp (
 pub returns-then-is_update : goal.returns-then-is_update
 unfolding slot_admitted
 returns-then-is_update c = simp (
-  ne_eqb _ _ c.if-d-at-eq0.false,
-  ne_eqb _ _ c.if-d-at.false,
+  ne_eqb _ _ c.if-sector-at-eq0.false,
+  ne_eqb _ _ c.if-sector-at.false,
   sym c.is_long.ensures ∙ c.if-is_long.false,
   ap (λ a. bit a 3) (sym c.attr-attr.ensures) ∙ sym c.test_u16.ensures ∙ c.if-test_u16.false,
   eq-eqb _ _ (sym c.high.ensures ∙ c.if-high-ne0.false),
   c.if-not-host.false,
-) (sym (or-r (is_housekeeping (long_name c.args.rec c.args.d.now c.args.base c.args.idx)) _ (sym c.is_update.ensures ∙ c.if-is_update.true)))
+) (sym (or-r (is_housekeeping (long_name c.args.rec.now c.args.sector.now c.args.base c.args.idx)) _ (sym c.is_update.ensures ∙ c.if-is_update.true)))
 
 pub returns : goal.returns
 unfolding slot_admitted
 returns c = simp (
-  ne_eqb _ _ c.if-d-at-eq0.false,
-  ne_eqb _ _ c.if-d-at.false,
+  ne_eqb _ _ c.if-sector-at-eq0.false,
+  ne_eqb _ _ c.if-sector-at.false,
   sym c.is_long.ensures ∙ c.if-is_long.false,
   ap (λ a. bit a 3) (sym c.attr-attr.ensures) ∙ sym c.test_u16.ensures ∙ c.if-test_u16.false,
   eq-eqb _ _ (sym c.high.ensures ∙ c.if-high-ne0.false),

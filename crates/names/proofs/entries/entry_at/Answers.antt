@@ -1,5 +1,5 @@
-use Prim.Native.Nat.{◌+◌}
-use mathlib.Core.Path.{◌∙◌}
+use Prim.Native.Nat.{◌+◌, ◌-◌, ◌*◌}
+use mathlib.Core.Path.{◌≡◌, ◌∙◌}
 use borrow.Author.Tests.{lt-ltb, le-ltb, le-leb, lt-leb}
 use native.Mathlib.Omega.{arith}
 use Rattle.names.specs.Names.{entry_of}
@@ -16,4 +16,7 @@ returns-then-i-ge16 c =
 
 pub returns : goal.returns
 unfolding entry_of
-returns c = simp (le-leb _ _ c.if-k-base.false, lt-ltb c.args.k (c.args.base + 16) (omega arith), c.copied.ensures)
+returns c =
+    let at = (c.args.k - c.args.base) * 32 in
+    let n : at + 32 - at ≡ 32 = omega arith in
+    simp (le-leb _ _ c.if-k-base.false, lt-ltb c.args.k (c.args.base + 16) (omega arith)) (c.copy_from_slice.ensures.after ∙ rw n)

@@ -11,7 +11,7 @@ loop-c-preserved-then-c-eq32 c =
     let l = c.loop-c in
     let v = l.invariant in
     let a = c.args in
-    (omega arith, omega arith, omega arith, part-blank (take (a.end - a.at) (drop a.at a.d.now)) l.c-index _ (take l.m l.chars) v.3 c.loop-c-test.true c.if-c-eq32.true)
+    (omega arith, omega arith, omega arith, part-blank (take (a.end - a.at) (drop a.at a.bytes.now)) l.c-index _ (take l.m l.chars) v.3 c.loop-c-test.true c.if-c-eq32.true)
 
 pub returns-then-m-ge32 : goal.returns-then-m-ge32
 returns-then-m-ge32 c =
@@ -25,7 +25,7 @@ loop-c-preserved c =
     let v = l.invariant in
     let a = c.args in
     let here = push-room l.chars l.m v.2 v.0 _ _ c.lower.ensures c.if-m-ge32.false in
-    let more = part-more (take (a.end - a.at) (drop a.at a.d.now)) l.c-index _ (take l.m l.chars) v.3 _ c.loop-c-test.true c.if-c-eq32.false here in
+    let more = part-more (take (a.end - a.at) (drop a.at a.bytes.now)) l.c-index _ (take l.m l.chars) v.3 _ c.loop-c-test.true c.if-c-eq32.false here in
     (omega arith, omega arith, search rules, more)
 
 pub returns : goal.returns
@@ -36,5 +36,5 @@ returns c =
     let m = held-length l.chars l.m v.2 v.0 in
     record {
       room = (omega arith, omega arith, omega arith);
-      text = part-end (take (a.end - a.at) (drop a.at a.d.now)) l.c-index _ (take l.m l.chars) v.3 c.loop-c-test.false (omega (arith, m));
+      text = part-end (take (a.end - a.at) (drop a.at a.bytes.now)) l.c-index _ (take l.m l.chars) v.3 c.loop-c-test.false (omega (arith, m));
     }

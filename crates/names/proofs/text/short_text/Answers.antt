@@ -5,9 +5,9 @@ use mathlib.Core.Path.{refl}
 use native.Mathlib.Omega.{arith}
 use Rattle.names.proofs.text.short_text.Goals as goal
 
-pub returns-then-d-dot-eq32 : goal.returns-then-d-dot-eq32
+pub returns-then-sector-dot-eq32 : goal.returns-then-sector-dot-eq32
 unfolding held
-returns-then-d-dot-eq32 c = let p = c.put_part-n.ensures in (p.room.0, short-plain _ _ _ p.text c.if-d-dot-eq32.true)
+returns-then-sector-dot-eq32 c = let p = c.put_part-n.ensures in (p.room.0, short-plain _ _ _ p.text c.if-sector-dot-eq32.true)
 
 pub returns : goal.returns
 unfolding held
@@ -15,4 +15,4 @@ returns c =
     let n = c.put_part-n in
     let p = n.ensures in
     let dot = push-room n.new.chars n.result p.room.2 p.room.0 _ _ refl (omega arith) in
-    (c.put_part-m.ensures.room.0, short-dotted _ _ (take n.result n.new.chars) p.text _ _ c.if-d-dot-eq32.false dot c.put_part-m.ensures.text)
+    (c.put_part-m.ensures.room.0, short-dotted _ _ (take n.result n.new.chars) p.text _ _ c.if-sector-dot-eq32.false dot c.put_part-m.ensures.text)

@@ -8,14 +8,14 @@ use borrow.Author.Rules.{rules}
 use Rattle.names.proofs.text.with_text.Goals as goal
 
 pub loop-i-init : goal.loop-i-init
-loop-i-init c = (c.requires.0, search rules, text-start _ _ (held c.args.name) c.text_len-n.ensures)
+loop-i-init c = (c.requires, search rules, text-start _ _ (held c.args.name) c.text_len-n.ensures)
 
 pub returns-then-k-ge32 : goal.returns-then-k-ge32
 unfolding held
 returns-then-k-ge32 c = let v = c.loop-i.invariant in (v.0, push-full c.loop-i.out.chars c.loop-i.out.len v.1 v.0 _ c.if-k-ge32.true ∙ sym v.2)
 
 pub char_at-requires : goal.char_at-requires
-char_at-requires c = omega (arith, c.text_len-n.ensures, text_len-le c.args.e.now)
+char_at-requires c = omega (arith, c.text_len-n.ensures, text_len-le c.args.entry.now)
 
 pub loop-i-preserved : goal.loop-i-preserved
 unfolding held

@@ -10,4 +10,4 @@ use Rattle.names.proofs.text.with_text.Given as goal
 abbrev pub invariant-loop-i : goal.invariant-loop-i
 invariant-loop-i l =
     (l.out.len ≤ 32) × (length l.out.chars ≡ 32)
-    × (take 32 (held l.initial.out ++ map shown_char (text_of l.e)) ≡ take 32 (held l.out ++ map shown_char (listed (char_of l.e) (l.n - l.i) l.i)))
+    × (take 32 (held l.initial.out ++ map shown_char (text_of l.entry)) ≡ take 32 (held l.out ++ map shown_char (listed (char_of l.entry) (l.n - l.i) l.i)))
