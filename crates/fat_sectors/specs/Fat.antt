@@ -1,5 +1,5 @@
 -- How a written FAT sector is judged (document 01, "Judging a sector").
-use Rattle.std.specs.Prelude.{ℕ, ◌+◌, ◌*◌, Bool, false, not, ◌&&◌, ◌||◌, List, ltb, eqb, Option, Some, None}
+use Rattle.std.specs.Prelude.{ℕ, ◌+◌, ◌*◌, Bool, false, not, ◌&&◌, ◌||◌, List, map, ltb, eqb, Option, Some, None}
 use Rattle.loops.specs.Loops.{pick, all, first, count, fold}
 use Rattle.loops.specs.Rows.{rows}
 use Rattle.loops.specs.Marks.{picked_by}
@@ -8,7 +8,9 @@ use Rattle.sector.specs.Bytes.{word}
 use Rattle.vdisk.specs.Owner.{owner_of}
 use Rattle.vdisk.specs.declared.owner.Own.{Own}
 use Rattle.vdisk.specs.declared.owner.Own.TheVariants.{Reserved, Fixed, Dyn, Free}
+use Rattle.file_table.specs.Files.{id_of, start_of, size_of}
 use Rattle.file_table.specs.Table.{in_file}
+use Rattle.file_table.specs.declared.VF.{VF}
 use Rattle.state.specs.Pairs.{pair_idx, free_pairs, set_pair}
 use Rattle.state.specs.Setters.{with_fat1}
 use Rattle.state.specs.declared.w.Pair.{Pair}
@@ -30,6 +32,10 @@ pub record FatWrite : Type 0 where
 abbrev pub fat_write : List ℕ → List ℕ → List ℕ → ℕ → List Pair → ℕ → List ℕ → List ℕ → FatWrite
 fat_write ids starts sizes first pairs s shown written =
     record { ids = ids; starts = starts; sizes = sizes; first = first; pairs = pairs; s = s; shown = shown; written = written }
+
+-- sector s over a lent table and in a state, as shown and as written
+abbrev pub fat_in : List VF → W → ℕ → List ℕ → List ℕ → FatWrite
+fat_in files w s shown written = fat_write (map id_of files) (map start_of files) (map size_of files) w.first w.pair s shown written
 
 -- entry i of the sector: its cluster, and its value as written
 abbrev pub cluster_at : FatWrite → ℕ → ℕ

@@ -1,5 +1,5 @@
 -- Laws of a written FAT sector.
-use Rattle.std.specs.Prelude.{ℕ, ◌+◌, ◌-◌, ◌*◌, ◌<◌, ◌≤◌, min, max, Bool, false, ◌&&◌, ◌||◌, List, refl, leb, length, Some, None}
+use Rattle.std.specs.Prelude.{ℕ, ◌+◌, ◌-◌, ◌*◌, ◌<◌, ◌≤◌, min, max, Bool, false, ◌&&◌, ◌||◌, List, leb, length, Some, None}
 use Rattle.std.proofs.Math.Bool.{true, not}
 use Rattle.std.proofs.Math.Path.{◌≡◌}
 use Rattle.std.proofs.Common.{ap}
@@ -23,7 +23,8 @@ use Rattle.state.specs.Pairs.{set_pair}
 use Rattle.state.specs.Setters.{with_fat1}
 use Rattle.state.specs.declared.w.W.{W}
 use Rattle.clusters.specs.Clusters.{is_live}
-use Rattle.fat_sectors.specs.Fat.{FatWrite, cluster_at, value_at, changed_at, zeroed_at, zeroes_file, owner_at, entry_number, refused_at, needs_pair, freed_own, freed_by, frees_row, freed_owner, free_id, apply_at}
+use Rattle.fat_sectors.specs.Fat.{FatWrite, cluster_at, value_at, changed_at, zeroed_at, zeroes_file, owner_at, needs_pair}
+use Rattle.fat_sectors.specs.Fat.{freed_own, freed_by, frees_row, freed_owner, free_id, apply_at}
 
 -- the entry of cluster c is written 0
 abbrev pub zero_of : FatWrite → ℕ → Bool
@@ -77,10 +78,6 @@ module _ (x : FatWrite) (j : ℕ) where
 
 -- an entry as it was shown is not refused, and needs and frees nothing
 module _ (x : FatWrite) (i : ℕ) (same : changed_at x i ≡ false) where
-  pub same-refused : refused_at x i ≡ false
-  unfolding entry_number
-  same-refused = rw same
-
   pub same-needs : needs_pair x i ≡ false
   unfolding needs_pair
   same-needs = rw same
@@ -89,7 +86,7 @@ module _ (x : FatWrite) (i : ℕ) (same : changed_at x i ≡ false) where
   unfolding freed_by
   same-frees = rw same
 
-freed_own-is : (x : FatWrite) (i j : ℕ) (o : Own) → freed_own x i o ≡ Some j → o ≡ Dyn j
+pub freed_own-is : (x : FatWrite) (i j : ℕ) (o : Own) → freed_own x i o ≡ Some j → o ≡ Dyn j
 unfolding freed_own
 freed_own-is x i j Reserved = λ (e : None ≡ Some j). let z : ◌≡◌ {A = ℕ} 0 1 = cc in absurd (omega arith)
 freed_own-is x i j Fixed = λ (e : None ≡ Some j). let z : ◌≡◌ {A = ℕ} 0 1 = cc in absurd (omega arith)
@@ -113,28 +110,6 @@ unfolding free_id frees_row
 freed-ids x rows m l =
     rows-same (λ j id. pick (eqb (get_or rows j 0) 1) (set_bit id 13) id) (free_id x) x.ids
     (λ j id h. ap (λ (b : Bool). pick b (set_bit id 13) id) (marked (freed_by x) max_files 256 rows m j (omega arith)))
-
--- the owner is a file whose row is marked 1
-unfoldable pub marked_owner : List ℕ → Own → Bool
-marked_owner rows Reserved = false
-marked_owner rows Fixed = false
-marked_owner rows (Dyn j) = eqb (get_or rows j 0) 1
-marked_owner rows Free = false
-
-marked-by : (x : FatWrite) (rows : List ℕ) → Marks (freed_by x) max_files 256 rows → (o : Own) → ((j : ℕ) → o ≡ Dyn j → j < max_files)
-    → marked_owner rows o ≡ freed_owner x o
-unfolding marked_owner freed_owner frees_row
-marked-by x rows m Reserved h = refl
-marked-by x rows m Fixed h = refl
-marked-by x rows m (Dyn j) h = marked (freed_by x) max_files 256 rows m j (h j refl)
-marked-by x rows m Free h = refl
-
--- which are those that the sector frees
-pub marked-owner : (x : FatWrite) (rows : List ℕ) → Marks (freed_by x) max_files 256 rows → length x.starts ≤ max_files → (i : ℕ)
-    → marked_owner rows (owner_at x i) ≡ freed_owner x (owner_at x i)
-marked-owner x rows m l i =
-    marked-by x rows m (owner_at x i)
-    (λ j e. let k = (owner-is x.starts x.sizes x.first (cluster_at x i) j e).row in omega arith)
 
 -- an entry as shown changes nothing
 module _ (x : FatWrite) (i : ℕ) (w : W) where

@@ -1,245 +1,146 @@
-// Each entry of a written FAT sector by itself.
-ghost use Rattle.std.specs.Prelude.{◌≡◌, not, ◌&&◌, ℕ, ◌*◌, ◌%◌, ◌<◌, ◌≤◌, eqb, length};
+// Each changed entry of a written FAT sector by itself.
+ghost use Rattle.std.specs.Prelude.{◌≡◌, true, not, ◌&&◌, ◌<◌, eqb, length, None, IfOk};
 ghost use Rattle.loops.specs.Loops.{pick};
-ghost use Rattle.sector.specs.Bytes.{word};
-ghost use Rattle.slots.specs.Slots.{same_slot};
-ghost use Rattle.fat_sectors.specs.Changed.{next_changed};
-ghost use Rattle.fat_sectors.specs.Values.{fat1_passes, host_value};
-ghost use Rattle.fat_sectors.specs.Fat.{fat_write, zeroes_file, host_number, entry_number, needs_pair, freed_by};
-ghost use Rattle.fat_sectors.specs.Lent.{Lent};
+ghost use Rattle.refusals.specs.Refusals.{told};
+ghost use Rattle.state.specs.Pairs.{pair_idx};
+ghost use Rattle.clusters.specs.Clusters.{is_nothing};
+ghost use Rattle.fat_sectors.specs.Values.{fat1_passes};
+ghost use Rattle.fat_sectors.specs.Fat.{value_at, changed_at, zeroes_file, host_number, entry_number, needs_pair, freed_by};
+ghost use Rattle.fat_sectors.specs.declared.entries.Entry.TheVariants.{Passes, Frees};
+ghost use Rattle.fat_sectors.specs.Gathered.{judged_as, needs, frees, AreZeroed};
 
+use crate::fat_sector::FatSector;
+use crate::values::{fat1_passes, host_value};
 use clusters::ours_live;
-use slots::dates::same_slot;
+use file_table::MAX_VF;
+use refusals::Refusal;
+use sector::le16;
 use state::pairs::pair_idx;
-use state::w::{NPAIR, Pair};
-use vdisk::drive::{CLUSTERS, nclus};
-use vdisk::owner::{Own, owner};
+use vdisk::drive::nclus;
+use vdisk::owner::Own;
 
-pub fn fat1_passes(v: u16) -> bool
-    ensures { result ≡ fat1_passes v }
-{
-    v % 0x4000 == 0x3FFF
+// What a changed entry that is taken does, besides what it sets: nothing, it needs a place for a pair, or it frees the file of a row.
+#[derive(Clone, Copy)]
+pub(crate) enum Entry {
+    Passes,
+    NeedsPair,
+    Frees(usize),
 }
 
-pub fn host_value(v: u16) -> bool
-    ensures { result ≡ host_value v }
+// FAT[0] isn't changed, FAT[1] by its value.
+fn reserved_entry(c: u32, v: u16) -> Result<Entry, Refusal>
+    requires { c < 2 }
+    ensures number { told result ≡ pick (eqb c 0) 4 (pick (fat1_passes v) 0 4) }
+    ensures entry { IfOk result (λ e. e ≡ Passes) }
 {
-    if v == 0 {
-        return true;
-    }
-    if v < 2 {
-        return false;
-    }
-    if (v as u32) < CLUSTERS + 2 {
-        return true;
-    }
-    0xFFF8 <= v
-}
-
-fn host_number(v: u16) -> u8
-    ensures { result ≡ host_number v }
-{
-    if host_value(v) { 0 } else { 6 }
-}
-
-// Is entry `i` written otherwise than shown.
-pub fn is_changed(g: &[u8], d: &[u8], i: u32) -> bool
-    requires { (length g.now ≡ 512) × (length d.now ≡ 512) × (i < 256) }
-    ensures { result ≡ not (eqb (word g.now (i * 2)) (word d.now (i * 2))) }
-{
-    let at = i as usize * 2;
-    let o = sector::le16(g, at);
-    let n = sector::le16(d, at);
-    o != n
-}
-
-// Are the 16 entries from `i` on, which fill a slot, as shown. Of an entry inside a slot nothing is said.
-pub fn same_sixteen(g: &[u8], d: &[u8], i: u32) -> bool
-    requires { (length g.now ≡ 512) × (length d.now ≡ 512) × (i < 256) }
-    ensures { result ≡ (eqb (i % 16) 0 && same_slot g.now d.now (i * 2)) }
-{
-    if i % 16 != 0 {
-        return false;
-    }
-    same_slot(g, d, i as usize * 2)
-}
-
-// The next changed entry from `from` on, 256 where none is. Slots of 16 entries are compared at once.
-pub fn next_changed(g: &[u8], d: &[u8], from: u32) -> u32
-    requires { (length g.now ≡ 512) × (length d.now ≡ 512) × (from ≤ 256) }
-    ensures { result ≡ next_changed g.now d.now from }
-{
-    let mut i = from;
-    while i < 256 {
-        if same_sixteen(g, d, i) {
-            i += 16;
-            continue;
-        }
-        if is_changed(g, d, i) {
-            return i;
-        }
-        i += 1;
-    }
-    i
-}
-
-// Are all entries of file `j` in the sector written 0: those from its first cluster in the sector to its last.
-fn zeroes_file(
-    ids: &[u16],
-    starts: &[u16],
-    sizes: &[u32],
-    sorted: bool,
-    first: u32,
-    pair: [Pair; NPAIR],
-    s: u32,
-    g: &[u8],
-    d: &[u8],
-    j: usize,
-) -> bool
-    requires { Lent ids.now starts.now sizes.now sorted s g.now d.now × (j < length starts.now) }
-    ensures { result ≡ zeroes_file (fat_write ids.now starts.now sizes.now first pair s g.now d.now) j }
-{
-    let start = starts[j] as u32;
-    let end = start + nclus(sizes[j]);
-    let base = s * 256;
-    let from = num::max_u32(start, base);
-    let last = num::min_u32(end, base + 256);
-    for c in from..last {
-        let at = (c - base) as usize * 2;
-        if sector::le16(d, at) != 0 {
-            return false;
-        }
-    }
-    true
-}
-
-// A live file's changed entry becomes 0 with all its entries in this sector.
-fn file_number(
-    ids: &[u16],
-    starts: &[u16],
-    sizes: &[u32],
-    sorted: bool,
-    first: u32,
-    pair: [Pair; NPAIR],
-    s: u32,
-    g: &[u8],
-    d: &[u8],
-    j: usize,
-    v: u16,
-) -> u8
-    requires { Lent ids.now starts.now sizes.now sorted s g.now d.now × (j < length starts.now) }
-    ensures { result ≡ pick (eqb v 0 && zeroes_file (fat_write ids.now starts.now sizes.now first pair s g.now d.now) j) 0 13 }
-{
-    if v != 0 {
-        return 13;
-    }
-    if zeroes_file(ids, starts, sizes, sorted, first, pair, s, g, d, j) {
-        return 0;
-    }
-    13
-}
-
-// The refusal number of entry `i`, 0 where it passes: 4, 5, 13, 6.
-pub fn entry_number(
-    ids: &[u16],
-    starts: &[u16],
-    sizes: &[u32],
-    sorted: bool,
-    first: u32,
-    pair: [Pair; NPAIR],
-    s: u32,
-    g: &[u8],
-    d: &[u8],
-    i: u32,
-) -> u8
-    requires { Lent ids.now starts.now sizes.now sorted s g.now d.now × (i < 256) }
-    ensures { result ≡ entry_number (fat_write ids.now starts.now sizes.now first pair s g.now d.now) i }
-{
-    if !is_changed(g, d, i) {
-        return 0;
-    }
-    let c = s * 256 + i;
-    let v = sector::le16(d, i as usize * 2);
     if c == 0 {
-        return 4;
+        return Err(Refusal::ReservedEntry);
     }
-    if c == 1 {
-        if fat1_passes(v) {
-            return 0;
-        }
-        return 4;
+    if fat1_passes(v) {
+        return Ok(Entry::Passes);
     }
-    match owner(starts, sizes, sorted, first, c) {
-        Own::Reserved => 5,
-        Own::Fixed => 5,
-        Own::Dyn(j) => {
-            if ours_live(ids, pair, j, c) {
-                return file_number(ids, starts, sizes, sorted, first, pair, s, g, d, j, v);
-            }
-            host_number(v)
-        }
-        Own::Free => host_number(v),
-    }
+    Err(Refusal::ReservedEntry)
 }
 
-// Does entry `i` need a pair place: a host cluster that gets a value and has no pair.
-pub fn needs_pair(
-    ids: &[u16],
-    starts: &[u16],
-    sizes: &[u32],
-    sorted: bool,
-    first: u32,
-    pair: [Pair; NPAIR],
-    s: u32,
-    g: &[u8],
-    d: &[u8],
-    i: u32,
-) -> bool
-    requires { Lent ids.now starts.now sizes.now sorted s g.now d.now × (i < 256) }
-    ensures { result ≡ needs_pair (fat_write ids.now starts.now sizes.now first pair s g.now d.now) i }
-{
-    if !is_changed(g, d, i) {
-        return false;
+impl<'a> FatSector<'a> {
+    // Is entry `i` written otherwise than shown.
+    pub(crate) fn is_changed(&self, i: u32) -> bool
+        requires { i < 256 }
+        ensures { result ≡ changed_at (judged_as self.now) i }
+    {
+        let shown = self.sectors.shown;
+        let at = i as usize * 2;
+        le16(shown, at) != self.value(i)
     }
-    let c = s * 256 + i;
-    if !clusters::host_cluster(ids, starts, sizes, sorted, first, pair, c) {
-        return false;
-    }
-    if sector::le16(d, i as usize * 2) == 0 {
-        return false;
-    }
-    pair_idx(pair, c).is_none()
-}
 
-// The file that entry `i` frees: a live file's.
-pub fn freed_by(
-    ids: &[u16],
-    starts: &[u16],
-    sizes: &[u32],
-    sorted: bool,
-    first: u32,
-    pair: [Pair; NPAIR],
-    s: u32,
-    g: &[u8],
-    d: &[u8],
-    i: u32,
-) -> Option<usize>
-    requires { Lent ids.now starts.now sizes.now sorted s g.now d.now × (i < 256) }
-    ensures { result ≡ freed_by (fat_write ids.now starts.now sizes.now first pair s g.now d.now) i }
-{
-    if !is_changed(g, d, i) {
-        return None;
+    // Entry `i` as it is written.
+    pub(crate) fn value(&self, i: u32) -> u16
+        requires { i < 256 }
+        ensures { result ≡ value_at (judged_as self.now) i }
+    {
+        let written = self.sectors.written;
+        le16(written, i as usize * 2)
     }
-    let c = s * 256 + i;
-    match owner(starts, sizes, sorted, first, c) {
-        Own::Reserved => None,
-        Own::Fixed => None,
-        Own::Dyn(j) => {
-            if ours_live(ids, pair, j, c) {
-                return Some(j);
+
+    // Are all entries of file `j` in the sector written 0: those from its first cluster in the sector to its last.
+    fn zeroes_file(&self, j: usize) -> bool
+        requires { j < length self.now.files.rows.now }
+        ensures { result ≡ zeroes_file (judged_as self.now) j }
+    {
+        let rows = self.files.rows;
+        let start = rows[j].vstart as u32;
+        let end = start + nclus(rows[j].vsize);
+        let base = self.s * 256;
+        let from = start.max(base);
+        let last = end.min(base + 256);
+        for c in from..last {
+            if self.value(c - base) != 0 {
+                return false;
             }
-            None
         }
-        Own::Free => None,
+        true
+    }
+
+    // A live file's entry becomes 0 with all its entries in this sector. They were looked at where an earlier entry frees the file.
+    fn file_entry(&self, j: usize, v: u16, rows: &[u8; MAX_VF]) -> Result<Entry, Refusal>
+        requires row { j < length self.now.files.rows.now }
+        requires zeroed { AreZeroed (judged_as self.now) rows.now }
+        ensures number { told result ≡ pick (eqb v 0 && zeroes_file (judged_as self.now) j) 0 13 }
+        ensures entry { IfOk result (λ e. e ≡ Frees j) }
+    {
+        if v != 0 {
+            return Err(Refusal::LiveFile);
+        }
+        if rows[j] == 1 {
+            return Ok(Entry::Frees(j));
+        }
+        if self.zeroes_file(j) {
+            return Ok(Entry::Frees(j));
+        }
+        Err(Refusal::LiveFile)
+    }
+
+    // A host cluster that gets a value and has no pair needs a place for one.
+    fn host_entry(&self, c: u32, v: u16) -> Result<Entry, Refusal>
+        ensures number { told result ≡ host_number v }
+        ensures needs { IfOk result (λ e. needs e ≡ (not (eqb v 0) && is_nothing (pair_idx self.now.pair.now c))) }
+        ensures frees { IfOk result (λ e. frees e ≡ None) }
+    {
+        if !host_value(v) {
+            return Err(Refusal::HostValue);
+        }
+        if v == 0 {
+            return Ok(Entry::Passes);
+        }
+        if pair_idx(self.pair, c).is_some() {
+            return Ok(Entry::Passes);
+        }
+        Ok(Entry::NeedsPair)
+    }
+
+    // What changed entry `i` does, with one search for its owner.
+    pub(crate) fn entry(&self, i: u32, rows: &[u8; MAX_VF]) -> Result<Entry, Refusal>
+        requires changed { (i < 256) × (changed_at (judged_as self.now) i ≡ true) }
+        requires zeroed { AreZeroed (judged_as self.now) rows.now }
+        ensures number { told result ≡ entry_number (judged_as self.now) i }
+        ensures needs { IfOk result (λ e. needs e ≡ needs_pair (judged_as self.now) i) }
+        ensures frees { IfOk result (λ e. frees e ≡ freed_by (judged_as self.now) i) }
+    {
+        let c = self.s * 256 + i;
+        let v = self.value(i);
+        if c < 2 {
+            return reserved_entry(c, v);
+        }
+        match self.files.owner(c) {
+            Own::Reserved => Err(Refusal::OwnCluster),
+            Own::Fixed => Err(Refusal::OwnCluster),
+            Own::Dyn(j) => {
+                if ours_live(self.files.rows, self.pair, j, c) {
+                    return self.file_entry(j, v, rows);
+                }
+                self.host_entry(c, v)
+            }
+            Own::Free => self.host_entry(c, v),
+        }
     }
 }

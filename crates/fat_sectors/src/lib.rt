@@ -1,7 +1,10 @@
-// How a written FAT sector is judged.
+// How a written FAT sector is judged, over the lent table.
 
 #![tactic(auto)]
 
-pub mod entries;
+mod applied;
+mod entries;
+mod fat_sector;
+mod gathered;
 pub mod sectors;
-pub mod stores;
+pub mod values;

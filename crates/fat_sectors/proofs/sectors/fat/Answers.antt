@@ -1,30 +1,36 @@
-use mathlib.Core.Path.{sym, ◌∙◌}
+use mathlib.Core.Path.{sym, ap, ◌∙◌}
 use native.Mathlib.Omega.{arith}
-use borrow.Author.Tests.{eq-eqb, ne_eqb}
-use Rattle.fat_sectors.specs.Fat.{fat_state, fat_ids}
+use borrow.Author.Tests.{ne_eqb}
+use Rattle.std.proofs.lemmas.List.{length-map}
+use Rattle.refusals.proofs.Numbers.{refused}
+use Rattle.file_table.specs.Files.{id_of, with_ids}
+use Rattle.file_table.proofs.FileRows.{same-ids}
+use Rattle.fat_sectors.specs.Fat.{fat_in, fat_state, fat_ids}
 use Rattle.fat_sectors.specs.FatLaws.{freed-ids}
 use Rattle.fat_sectors.proofs.sectors.fat.Goals as goal
 
-pub returns-then-scanned-ne0 : goal.returns-then-scanned-ne0
-unfolding fat_state fat_ids
-returns-then-scanned-ne0 c = let n = c.scan-scanned.ensures.number in let e = ne_eqb _ _ (λ q. c.if-scanned-ne0.true (n ∙ q)) in record { number = n; changed = sym e; state = simp e; table = simp e }
+pub returns-in_err-gathered-clause-state : goal.returns-in_err-gathered-clause-state
+unfolding fat_state
+returns-in_err-gathered-clause-state c =
+    let n = rw (c.table_for-table.ensures.same_rows, c.table_for-table.ensures.same_first) at c.in_err-gathered.ensures in
+    simp (ne_eqb _ _ (λ z. refused _ (n ∙ z)))
 
-pub slice_bounds-apply_all-end : goal.slice_bounds-apply_all-end
-slice_bounds-apply_all-end c = sym c.scan-scanned.ensures.long
+pub returns-in_err-gathered-clause-table : goal.returns-in_err-gathered-clause-table
+unfolding fat_ids
+returns-in_err-gathered-clause-table c =
+    let n = rw (c.table_for-table.ensures.same_rows, c.table_for-table.ensures.same_first) at c.in_err-gathered.ensures in
+    simp (ne_eqb _ _ (λ z. refused _ (n ∙ z))) (sym (same-ids c.args.files.now))
 
-pub apply_all-out-requires : goal.apply_all-out-requires
-apply_all-out-requires c = record { lent = (c.requires, c.scan-scanned.ensures.long); marked = c.scan-scanned.ensures.marks c.if-scanned-ne0.false }
+pub returns-clause-state : goal.returns-clause-state
+unfolding fat_state
+returns-clause-state c =
+    let o = rw (c.table_for-table.ensures.same_rows, c.table_for-table.ensures.same_first) at c.in_ok-gathered.ensures in
+    simp o.0 (rw (c.table_for-table.ensures.same_rows, c.table_for-table.ensures.same_first) at c.apply.ensures)
 
-pub slice_bounds-mark_freed-end : goal.slice_bounds-mark_freed-end
-slice_bounds-mark_freed-end c = sym c.scan-scanned.ensures.long
-
-pub mark_freed-requires : goal.mark_freed-requires
-mark_freed-requires c = omega (arith, c.requires.few, c.scan-scanned.ensures.long)
-
-pub returns : goal.returns
-unfolding fat_state fat_ids
-returns c =
-    let s = c.scan-scanned.ensures in
-    let z = c.if-scanned-ne0.false in
-    let e = eq-eqb _ _ (sym s.number ∙ z) in
-    record { number = sym z ∙ s.number; changed = sym e; state = simp e c.apply_all-out.ensures; table = simp e (c.mark_freed.ensures ∙ freed-ids _ c.scan-scanned.result.rows (s.marks z) c.requires.few) }
+pub returns-clause-table : goal.returns-clause-table
+unfolding fat_ids
+returns-clause-table c =
+    let fs = c.args.files.now in
+    let x = fat_in fs c.args.w.now c.args.s c.args.sectors.shown.now c.args.sectors.written.now in
+    let o = rw (c.table_for-table.ensures.same_rows, c.table_for-table.ensures.same_first) at c.in_ok-gathered.ensures in
+    simp o.0 (c.mark_freed.ensures ∙ ap (with_ids fs) (freed-ids x _ o.1 (omega (arith, length-map fs id_of))))

@@ -1,0 +1,5 @@
+pub mod ChangedLaws
+pub mod BlockLaws
+pub mod EntryLaws
+pub mod GatherLaws
+pub mod Passed
