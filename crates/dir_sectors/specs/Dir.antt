@@ -1,5 +1,5 @@
 -- How a written sector of a generated directory is judged (document 01, "Judging a sector").
-use Rattle.std.specs.Prelude.{ℕ, ◌+◌, ◌*◌, Bool, true, false, not, ◌&&◌, ◌||◌, List, ltb, eqb, length, get_or, Option, Some, None}
+use Rattle.std.specs.Prelude.{ℕ, ◌+◌, ◌*◌, Bool, true, false, not, ◌&&◌, ◌||◌, List, map, ltb, eqb, length, get_or, Option, Some, None}
 use Rattle.loops.specs.Loops.{pick, all, some}
 use Rattle.loops.specs.Found.{find}
 use Rattle.loops.specs.Rows.{rows}
@@ -7,6 +7,8 @@ use Rattle.loops.specs.Marks.{picked_by}
 use Rattle.bits.specs.Bit.{set_bit}
 use Rattle.vdisk.specs.Ids.{turned, id_dir_of}
 use Rattle.slots.specs.Slots.{dates_only, turn_at}
+use Rattle.file_table.specs.Files.{id_of, dir_slot_of, start_of, size_of}
+use Rattle.file_table.specs.declared.VF.{VF}
 use Rattle.state.specs.declared.w.St.{St}
 use Rattle.medium.specs.Reads.{moved_ref}
 
@@ -25,6 +27,10 @@ pub record DirWrite : Type 0 where
 abbrev pub dir_write : List ℕ → List ℕ → List ℕ → List ℕ → ℕ → ℕ → List ℕ → List ℕ → DirWrite
 dir_write ids slots starts sizes k s shown written =
     record { ids = ids; slots = slots; starts = starts; sizes = sizes; k = k; s = s; shown = shown; written = written }
+
+-- of a lent table
+abbrev pub dir_in : List VF → ℕ → ℕ → List ℕ → List ℕ → DirWrite
+dir_in files k s shown written = dir_write (map id_of files) (map dir_slot_of files) (map start_of files) (map size_of files) k s shown written
 
 -- row j is an unturned file of that directory and slot
 unfoldable pub file_at : DirWrite → ℕ → ℕ → Bool

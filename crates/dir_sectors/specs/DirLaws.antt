@@ -1,43 +1,27 @@
--- What the code of a directory sector gathers, and its laws.
-use Rattle.std.specs.Prelude.{ℕ, suc, ◌+◌, ◌*◌, ◌<◌, ◌≤◌, Bool, not, ◌&&◌, ◌||◌, List, ◌++◌, ◌≡◌, ltb, eqb, length, take, drop, Some, None}
+-- Laws of a written directory sector.
+use Rattle.std.specs.Prelude.{ℕ, suc, ◌+◌, ◌*◌, ◌<◌, ◌≤◌, Bool, not, ◌&&◌, ◌||◌, List, [], ◌∷◌, ◌++◌, ◌≡◌, ltb, eqb, length, take, drop, Option, Some, None}
 use Rattle.std.proofs.Math.Bool.{true, false}
 use Rattle.std.proofs.Math.Path.{refl}
+use Rattle.std.proofs.lemmas.Bool.{false≢true}
 use Rattle.std.proofs.Common.{sym, ◌∙◌, ap, add-one, drop-cons, take-suc}
 use native.Mathlib.Omega.{arith}
 use Rattle.std.proofs.Math.ListN.{get_or}
 use Rattle.std.proofs.Math.Seq.{append_snoc}
 use borrow.Author.Tests.{eqb-true, eq-eqb, ne_eqb}
 use Rattle.loops.specs.Loops.{pick, all, some}
-use Rattle.loops.specs.Choices.{picked, and-no, or-l, or-r}
-use Rattle.loops.specs.Facts.{all-at, all-of}
+use Rattle.loops.specs.Choices.{either, picked, and-no, or-l, or-r}
+use Rattle.loops.specs.Facts.{all-at, all-of, some-in, some-at}
 use Rattle.loops.specs.Found.{find, find-lt}
-use Rattle.loops.specs.Rows.{rows as rows_of, rows-at, rows-length, rows-same}
-use Rattle.loops.specs.Marks.{Marks, marked}
+use Rattle.loops.specs.Rows.{rows as rows_of, rows_from, rows-at, rows-length, rows-same}
+use Rattle.loops.specs.Marks.{Marks, is_at, picked_by, marked}
 use Rattle.bits.specs.Bit.{set_bit}
 use Rattle.file_table.specs.Table.{max_files}
 use Rattle.vdisk.specs.Ids.{id_dir_of}
 use Rattle.slots.specs.Slots.{is_date, same_byte, same_slot, date_at, dates_only, turn_at}
 use Rattle.state.specs.declared.w.St.{St}
 use Rattle.medium.specs.Reads.{moved_ref}
-use Rattle.dir_sectors.specs.Dir.{DirWrite, file_at, row_of, turned_by, is_found, slot_passes, dir_number, turns_row, turn_id, dir_id}
-use Rattle.dir_sectors.specs.declared.Turns.{Turns}
-
--- the number; and where it is 0, whether a slot turns a file, and the rows turned
-pub record TurnsOf (x : DirWrite) (t : Turns) : Type 0 where
-  pub number : t.no ≡ dir_number x
-  pub some-turn : t.no ≡ 0 → t.any ≡ some (λ i. is_found (turned_by x i)) 16 0
-  pub long : length t.rows ≡ max_files
-  pub marks : t.no ≡ 0 → Marks (turned_by x) max_files 16 t.rows
-
--- a row marked 1 becomes turned, and moved where a staged sector names its file
-unfoldable pub mark_id : List ℕ → List ℕ → List ℕ → List ℕ → List ℕ → List St → ℕ → ℕ → ℕ
-mark_id rows starts sizes fat area st j id =
-    pick (eqb (get_or rows j 0) 1) (pick (moved_ref fat area st (get_or starts j 0) (get_or sizes j 0)) (set_bit (set_bit id 12) 15) (set_bit id 12)) id
-
--- a row of another slot is none that the slot turns
-pub other-slot : (x : DirWrite) (n j : ℕ) → (get_or x.slots j 0 ≡ n → ⊥) → false ≡ file_at x n j
-unfolding file_at
-other-slot x n j h = rw (ne_eqb (get_or x.slots j 0) n h, and-no (eqb (id_dir_of (get_or x.ids j 0)) x.k) false refl)
+use Rattle.dir_sectors.specs.Turned.{mark_id}
+use Rattle.dir_sectors.specs.Dir.{DirWrite, file_at, row_of, turned_by, is_found, slot_passes, turns_row, turn_id, dir_id}
 
 -- a slot that turns a file passes; one that turns none passes by its dates
 pub turn-passes : (x : DirWrite) (i j : ℕ) → turned_by x i ≡ Some j → slot_passes x i ≡ true
@@ -84,20 +68,6 @@ pub same-passes : (x : DirWrite) (i : ℕ) → same_slot x.shown x.written (i * 
 unfolding slot_passes
 same-passes x i e = or-l (dates_only x.shown x.written (i * 32)) (is_found (turned_by x i)) (same-dates x.shown x.written (i * 32) e)
 
--- a row that isn't marked 1 stays as it is
-pub unmarked : (rows starts sizes fat area : List ℕ) (st : List St) (j id : ℕ) → (get_or rows j 0 ≡ 1 → ⊥) → mark_id rows starts sizes fat area st j id ≡ id
-unfolding mark_id
-unmarked rows starts sizes fat area st j id h = rw (ne_eqb (get_or rows j 0) 1 h)
-
--- a row that stays as it is needs no writing
-module _ (f : ℕ → ℕ → ℕ) (d t : List ℕ) (i : ℕ) (inv : t ≡ take i (rows_of f d) ++ drop i d) where
-  pub rows-keep : f i (get_or d i 0) ≡ get_or d i 0 → i < length d → t ≡ take (i + 1) (rows_of f d) ++ drop (i + 1) d
-  rows-keep e h =
-      let n = rows-length f 0 d in
-      let q : get_or d i 0 ≡ get_or (rows_of f d) i 0 = sym e ∙ sym (rows-at f d i h) in
-      rw (inv, drop-cons d i 0 h, add-one i, take-suc (rows_of f d) i 0 (omega arith), q)
-      (sym (append_snoc (take i (rows_of f d)) (get_or (rows_of f d) i 0) (drop (suc i) d)))
-
 -- the row that a slot turns is one of the table
 pub turned_by-lt : (x : DirWrite) (i j : ℕ) → turned_by x i ≡ Some j → j < length x.ids
 unfolding turned_by row_of
@@ -105,6 +75,25 @@ turned_by-lt x i j e =
     picked (ltb x.k 3 && turn_at x.shown x.written (i * 32)) (find (file_at x (x.s * 16 + i)) (length x.ids)) None (Some j) e
     (λ p q. find-lt (file_at x (x.s * 16 + i)) (length x.ids) j q)
     (λ p (q : None ≡ Some j). let z : ◌≡◌ {A = ℕ} 0 1 = cc in absurd (omega arith))
+
+-- where no slot turns a file, every row stays as it is
+rows-stay : (f : ℕ → ℕ → ℕ) (i : ℕ) (ids : List ℕ) → ((j id : ℕ) → f j id ≡ id) → rows_from f i ids ≡ ids
+unfolding rows_from
+rows-stay f i [] h = refl
+rows-stay f i (id ∷ ids) h = rw (h i id, rows-stay f (i + 1) ids h)
+
+row-found : (j : ℕ) (r : Option ℕ) → is_at j r ≡ true → is_found r ≡ true
+unfolding is_at is_found
+row-found j (Some k) p = refl
+row-found j None p = absurd (false≢true p)
+
+pub none-turned : (x : DirWrite) (fat area : List ℕ) (st : List St) → some (λ i. is_found (turned_by x i)) 16 0 ≡ false
+    → rows_of (dir_id x fat area st) x.ids ≡ x.ids
+unfolding dir_id turns_row picked_by
+none-turned x fat area st e =
+    rows-stay (dir_id x fat area st) 0 x.ids
+    (λ j id. either (turns_row x j) (λ t. some-in (λ i. is_at j (turned_by x i)) 16 0 t (λ i a b p. absurd (false≢true (sym e
+    ∙ some-at (λ k. is_found (turned_by x k)) 16 0 i a b (row-found j (turned_by x i) p))))) (λ f. rw f))
 
 -- marking the rows that are marked 1 turns those that the sector turns
 pub turned-ids : (x : DirWrite) (fat area : List ℕ) (st : List St) (rows : List ℕ) → Marks (turned_by x) max_files 16 rows → length x.ids ≤ max_files

@@ -1,4 +1,4 @@
 -- How a written sector of a generated directory is judged.
 pub mod Dir
-pub mod Lent
+pub mod Turned
 pub mod DirLaws
