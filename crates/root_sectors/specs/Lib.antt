@@ -1,5 +1,5 @@
 -- How a written root sector is judged.
 pub mod Root
 pub mod Records
-pub mod Lent
+pub mod Judged
 pub mod RootLaws

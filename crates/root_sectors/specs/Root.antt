@@ -1,7 +1,9 @@
 -- How a written root sector is judged (document 01, "Judging a sector").
-use Rattle.std.specs.Prelude.{ℕ, ◌+◌, ◌*◌, Bool, not, ◌&&◌, ◌||◌, List, leb, ltb, eqb, take, drop, set, Option, Some, None}
+use Rattle.std.specs.Prelude.{ℕ, ◌+◌, ◌*◌, Bool, not, ◌&&◌, ◌||◌, List, map, leb, ltb, eqb, take, drop, set, Option, Some, None}
 use Rattle.loops.specs.Loops.{pick, some, first, count, fold}
 use Rattle.slots.specs.Slots.{start_of, same_slot, dates_only}
+use Rattle.file_table.specs.Files.{id_of, start_of as file_start_of, size_of as file_size_of}
+use Rattle.file_table.specs.declared.VF.{VF}
 use Rattle.records.specs.Records.{rec_idx, free_rec, free_recs}
 use Rattle.records.specs.declared.Rec.{Rec}
 use Rattle.root_slots.specs.RootSlots.{slot_admitted}
@@ -26,6 +28,10 @@ pub record RootWrite : Type 0 where
 abbrev pub root_write : List ℕ → List ℕ → List ℕ → ℕ → List Pair → List Rec → ℕ → List ℕ → List ℕ → RootWrite
 root_write ids starts sizes first pairs recs s shown written =
     record { ids = ids; starts = starts; sizes = sizes; first = first; pairs = pairs; recs = recs; s = s; shown = shown; written = written }
+
+-- the same with a lent table, by the state's pairs and records
+abbrev pub root_in : List VF → W → ℕ → List ℕ → List ℕ → RootWrite
+root_in files w s shown written = root_write (map id_of files) (map file_start_of files) (map file_size_of files) w.first w.pair w.rec s shown written
 
 -- slot i of the sector: its number in the root
 abbrev pub slot_at : RootWrite → ℕ → ℕ

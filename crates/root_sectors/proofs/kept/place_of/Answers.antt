@@ -1,6 +1,6 @@
 use mathlib.Core.Path.{sym, ◌∙◌}
 use Rattle.root_sectors.specs.Root.{place_of}
-use Rattle.root_sectors.proofs.place_of.Goals as goal
+use Rattle.root_sectors.proofs.kept.place_of.Goals as goal
 
 pub returns-in-Some : goal.returns-in-Some
 unfolding place_of

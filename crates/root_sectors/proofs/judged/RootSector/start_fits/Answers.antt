@@ -1,15 +1,11 @@
 use mathlib.Core.Path.{sym, ◌∙◌}
 use borrow.Author.Tests.{eq-eqb, ne_eqb}
 use Rattle.root_sectors.specs.Root.{start_fits}
-use borrow.Author.Rules.{rules}
-use Rattle.root_sectors.proofs.start_fits.Goals as goal
+use Rattle.root_sectors.proofs.judged.RootSector.start_fits.Goals as goal
 
 pub returns-then-start-eq0 : goal.returns-then-start-eq0
 unfolding start_fits
 returns-then-start-eq0 c = simp (eq-eqb _ _ (sym c.start-start.ensures ∙ c.if-start-eq0.true))
-
-pub host_cluster-requires : goal.host_cluster-requires
-host_cluster-requires c = record { lengths = search rules; rising = search rules }
 
 pub returns : goal.returns
 unfolding start_fits
