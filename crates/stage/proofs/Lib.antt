@@ -1,2 +1,3 @@
--- The laws that other crates and the proofs cite.
-pub mod CallLaws
+-- The laws that the proofs cite.
+pub mod SearchLaws
+pub mod ApartLaws

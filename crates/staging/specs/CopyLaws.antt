@@ -1,15 +1,13 @@
--- Laws of the two loops that make a block: its eight sectors filled, or the bytes of another block copied.
-use Rattle.std.specs.Prelude.{ℕ, ◌+◌, ◌-◌, ◌*◌, ◌<◌, ◌≤◌, ◌≡◌, refl, ltb, length, set, replicate}
-use mathlib.Core.List.{List, ◌++◌, append_assoc}
+-- Laws of how a block is made: its eight sectors filled, or the bytes of another block copied.
+use Rattle.std.specs.Prelude.{ℕ, ◌+◌, ◌-◌, ◌*◌, ◌<◌, ◌≤◌, ◌≡◌, refl, length, replicate}
+use mathlib.Core.List.{List, ◌++◌}
 use Rattle.std.proofs.Math.Path.{sym}
-use Rattle.std.proofs.Common.{◌∙◌, ap, add-one, length-append, length-take, length-drop, take_at, take_all, length-take-le, get_or-append-add}
+use Rattle.std.proofs.Common.{◌∙◌, ap, length-append, length-take, length-drop, take_at, take_all, length-take-le}
 use native.Mathlib.Omega.{arith}
-use Rattle.std.proofs.Math.ListN.{get_or, take, drop, get_or-append}
+use Rattle.std.proofs.Math.ListN.{take, drop}
 use Rattle.std.proofs.lemmas.List.{length-replicate}
-use Rattle.std.proofs.Math.Seq.{get_or-take, get_or-drop, paste, paste-suc, length_paste_head}
-use borrow.Author.Tests.{ltb-true, ltb-false}
+use Rattle.std.proofs.Math.Seq.{paste}
 use Rattle.loops.specs.Loops.{pick, fold, fold-go, fold-end}
-use Rattle.loops.specs.Choices.{either}
 use Rattle.bits.specs.Bit.{bit}
 use Rattle.state.specs.declared.w.St.{St}
 use Rattle.medium.specs.Medium.{block_of}
@@ -74,53 +72,7 @@ new-end xs b x s ys q inside z inv =
     let f = fold-end (λ k bs. bs ++ new_sector x s k) 8 q (take (q * 512) (block_of ys b)) (new_block x s) inv.made (omega arith) in
     inv.beside ∙ ap (λ (u : List ℕ). area_with xs b u) (sym (take_all (q * 512) (block_of ys b) (omega arith)) ∙ f)
 
--- outside a copy the list is as it was
-paste-below : (xs ss : List ℕ) (at j p : ℕ) → at ≤ length xs → p < at → get_or (paste xs at ss j) p 0 ≡ get_or xs p 0
-paste-below xs ss at j p l h =
-    let n = length-take-le at xs l in
-    ap (λ (t : List ℕ). get_or t p 0) (append_assoc (take at xs) (take j ss) (drop (at + j) xs))
-    ∙ get_or-append (take at xs) (take j ss ++ drop (at + j) xs) 0 p (omega arith)
-    ∙ get_or-take at xs p 0 h
-
-paste-above : (xs ss : List ℕ) (at j p : ℕ) → at ≤ length xs → j ≤ length ss → at + j ≤ p → get_or (paste xs at ss j) p 0 ≡ get_or xs p 0
-paste-above xs ss at j p l m h =
-    let n = length_paste_head xs at ss j l m in
-    let e : length (take at xs ++ take j ss) + (p - (at + j)) ≡ p = omega arith in
-    let f : at + j + (p - (at + j)) ≡ p = omega arith in
-    ap (λ (k : ℕ). get_or (paste xs at ss j) k 0) (sym e)
-    ∙ get_or-append-add (take at xs ++ take j ss) (drop (at + j) xs) (p - (at + j)) 0
-    ∙ get_or-drop (at + j) xs (p - (at + j)) 0 ∙ ap (λ (k : ℕ). get_or xs k 0) f
-
--- the first j bytes of another block are copied
-module _ (xs : List ℕ) (b from : ℕ) (to : InArea xs b) (of : InArea xs from) (other : from ≡ b → ⊥)
-    (ys : List ℕ) (j : ℕ) (inv : ys ≡ paste xs ((b - 2) * 4096) (block_of xs from) j) where
-  copy-read : j < 4096 → get_or ys ((from - 2) * 4096 + j) 0 ≡ get_or (block_of xs from) j 0
-  unfolding block_of
-  copy-read h =
-      let n = block-length xs from of in
-      let e = to.ends in
-      let u = to.low in
-      let v = of.low in
-      let p = (from - 2) * 4096 + j in
-      let at = (b - 2) * 4096 in
-      let r : get_or (take 4096 (drop ((from - 2) * 4096) xs)) j 0 ≡ get_or xs p 0 =
-      get_or-take 4096 (drop ((from - 2) * 4096) xs) j 0 h ∙ get_or-drop ((from - 2) * 4096) xs j 0 in
-      either (ltb from b)
-      (λ q. let w = ltb-true from b q in rw inv (paste-below xs (block_of xs from) at j p (omega arith) (omega arith)) ∙ sym r)
-      (λ q. let z : b < from = apart (ltb-false from b q) in
-      rw inv (paste-above xs (block_of xs from) at j p (omega arith) (omega arith) (omega arith)) ∙ sym r)
-    where
-      apart : b ≤ from → b < from
-      apart l = omega arith
-
-  pub copy-more : j < 4096 → set ys ((b - 2) * 4096 + j) (get_or ys ((from - 2) * 4096 + j) 0) ≡ paste xs ((b - 2) * 4096) (block_of xs from) (j + 1)
-  copy-more h =
-      let n = block-length xs from of in
-      let e = to.ends in
-      rw (copy-read h, inv, add-one j) (paste-suc xs ((b - 2) * 4096) (block_of xs from) j 0 (omega arith) (omega arith))
-
-  pub copy-end : j ≡ 4096 → ys ≡ area_with xs b (block_of xs from)
-  unfolding area_with
-  copy-end z =
-      let n = block-length xs from of in
-      rw (inv, z) (ap (λ (u : List ℕ). take ((b - 2) * 4096) xs ++ u ++ drop ((b - 2) * 4096 + 4096) xs) (take_all 4096 (block_of xs from) (omega arith)))
+-- the bytes of another block put into the area, as a copy inside a list does it
+pub copied : (xs : List ℕ) (b from n : ℕ) → n ≡ 4096 → paste xs ((b - 2) * 4096) (drop ((from - 2) * 4096) xs) n ≡ area_with xs b (block_of xs from)
+unfolding area_with block_of
+copied xs b from n e = rw e refl

@@ -8,12 +8,9 @@ use Rattle.state.specs.declared.w.St.{St}
 use Rattle.medium.specs.Medium.{block_of}
 use Rattle.medium.specs.MediumLaws.{InArea, block-length}
 use Rattle.staging.specs.Blocks.{held_for, place_in, new_block, source_block, filled_block, put_part, area_with}
+use Rattle.staging.specs.Lent.{HeldIn}
 use Rattle.staging.specs.AreaLaws.{area-block, area-twice}
 use Rattle.staging.specs.CopyLaws.{new-length}
-
--- where the source of the bytes lies: nowhere, or inside
-abbrev pub HeldIn : List ℕ → St → ℕ → Type 0
-HeldIn area x s = (held_for x s ≡ 0 → ⊥) → InArea area (held_for x s)
 
 block-made : (x : St) (s : ℕ) → length (new_block x s) ≡ 4096
 unfolding new_block fold

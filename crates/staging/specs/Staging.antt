@@ -1,11 +1,13 @@
 -- How data written to a host cluster is staged (document 01, "Judging a sector", Staging).
-use Rattle.std.specs.Prelude.{ℕ, Bool, true, false, ◌&&◌, ◌||◌, List, eqb, get_or, set, replicate, Option, Some, None}
+use Rattle.std.specs.Prelude.{ℕ, Bool, true, false, ◌&&◌, ◌||◌, List, [], map, eqb, get_or, set, replicate, Option, Some, None}
 use Rattle.loops.specs.Loops.{pick}
 use Rattle.loops.specs.Rows.{rows}
 use Rattle.num.specs.Num.{wrapping_next}
 use Rattle.bits.specs.Bit.{set_bit}
 use Rattle.sector.specs.Bytes.{same, zeros}
 use Rattle.vdisk.specs.Ids.{turned}
+use Rattle.file_table.specs.Files.{id_of, start_of, size_of}
+use Rattle.file_table.specs.declared.VF.{VF}
 use Rattle.slots.specs.Slots.{refers_to}
 use Rattle.state.specs.State.{no_st}
 use Rattle.state.specs.Setters.{with_st, with_staging, with_hint, with_stage_t, with_ver}
@@ -32,6 +34,14 @@ pub record StageWrite : Type 0 where
 abbrev pub stage_write : ℕ → ℕ → List ℕ → Bool → List ℕ → List ℕ → List ℕ → List ℕ → List ℕ → StageWrite
 stage_write c s written busy fat area ids starts sizes =
     record { c = c; s = s; written = written; busy = busy; fat = fat; area = area; ids = ids; starts = starts; sizes = sizes }
+
+-- the columns of a lent table
+abbrev pub stage_in : ℕ → ℕ → List ℕ → Bool → List ℕ → List ℕ → List VF → StageWrite
+stage_in c s written busy fat area files = stage_write c s written busy fat area (map id_of files) (map start_of files) (map size_of files)
+
+-- what the marks of files look at: the columns and the data
+abbrev pub table_write : List ℕ → List ℕ → List ℕ → List ℕ → StageWrite
+table_write ids starts sizes written = stage_write 0 0 written false [] [] ids starts sizes
 
 -- The refusal number, 0 where it is taken; whether that opens the session; the state, the data area and the ids then.
 pub record Staged : Type 0 where

@@ -1,136 +1,137 @@
 // The block that a staged sector goes to.
-ghost use Rattle.std.specs.Prelude.{◌≡◌, ℕ, ◌+◌, ◌*◌, ◌/◌, ◌<◌, ◌≤◌, length};
+ghost use Rattle.std.specs.Prelude.{◌≡◌, ℕ, ◌+◌, ◌*◌, ◌/◌, ◌<◌, ◌≤◌};
 ghost use Rattle.loops.specs.Loops.{pick};
 ghost use Rattle.bits.specs.Bit.{bit};
 ghost use Rattle.medium.specs.Medium.{block_of};
 ghost use Rattle.medium.specs.MediumLaws.{InArea};
-ghost use Rattle.staging.specs.FillLaws.{HeldIn};
-ghost use Rattle.staging.specs.Blocks.{is_parked, new_sector, new_block, source_block, filled_block, put_part, area_with, clear_bit, holding_st, written_st};
+ghost use Rattle.staging.specs.Lent.{HeldIn};
+ghost use Rattle.staging.specs.Blocks.{is_parked, held_for, clear_bit, holding_st, written_st};
+ghost use Rattle.staging.specs.Blocks.{new_sector, new_block, source_block, filled_block, put_part, area_with};
 
+use medium::blocks::BLK;
+use sector::Sector;
 use state::w::St;
 
 // Is the block of sector `s` parked.
-pub fn is_parked(x: St, s: u32) -> bool
+pub fn is_parked(slot: &St, s: u32) -> bool
     requires { s < 64 }
-    ensures { result ≡ is_parked x s }
+    ensures { result ≡ is_parked slot.now s }
 {
-    bits::test_u16(x.ro as u16, s / 8)
+    bits::test_u16(slot.ro as u16, s / 8)
+}
+
+// The block held for sector `s`, 0 where none is.
+pub fn held_for(slot: &St, s: u32) -> u16
+    requires { s < 64 }
+    ensures { result ≡ held_for slot.now s }
+{
+    let j = (s / 8) as usize;
+    slot.blk[j]
 }
 
 // Bit `j` cleared.
-pub fn clear_bit(m: u8, j: u32) -> u8
+fn clear_bit(number: u8, j: u32) -> u8
     requires { j < 8 }
-    ensures { result ≡ clear_bit m j }
+    ensures { result ≡ clear_bit number j }
 {
-    if bits::test_u16(m as u16, j) {
-        return m - (1 << j);
+    if bits::test_u16(number as u16, j) {
+        return number - (1 << j);
     }
-    m
+    number
 }
 
-// The slot with sector `s` written and block `b` held for it, not parked.
-pub fn holding(x: St, s: u32, b: u16) -> St
+// Sector `s` is written.
+pub fn mark_written(slot: &mut St, s: u32)
     requires { s < 64 }
-    ensures { result ≡ holding_st x s b }
+    ensures { slot.new ≡ written_st slot.old s }
+{
+    slot.map = bits::set_u64(slot.map, s);
+}
+
+// Sector `s` is written, and the block is held for it, not parked.
+pub fn hold_block(slot: &mut St, s: u32, block: u16)
+    requires { s < 64 }
+    ensures { slot.new ≡ holding_st slot.old s block }
 {
     let j = s / 8;
-    let mut out = x;
-    let ro = clear_bit(x.ro, j);
-    let map = bits::set_u64(x.map, s);
-    out.ro = ro;
-    out.map = map;
-    out.blk[j as usize] = b;
-    out
-}
-
-// The slot with sector `s` written and no block for it.
-pub fn written(x: St, s: u32) -> St
-    requires { s < 64 }
-    ensures { result ≡ written_st x s }
-{
-    let mut out = x;
-    let map = bits::set_u64(x.map, s);
-    out.map = map;
-    out
+    mark_written(slot, s);
+    slot.ro = clear_bit(slot.ro, j);
+    slot.blk[j as usize] = block;
 }
 
 // The sector put into a block, through the part of the data area that starts at its place.
-pub fn put_sector(area: &mut [u8], b: usize, at: usize, d: &[u8])
-    requires { InArea area.old b × (at + 512 ≤ 4096) × (length d.now ≡ 512) }
-    ensures { area.new ≡ area_with area.old b (put_part (block_of area.old b) at d.now) }
+fn put_sector(area: &mut [u8], block: usize, at: usize, written: &Sector)
+    requires { InArea area.old block × (at + 512 ≤ 4096) }
+    ensures { area.new ≡ area_with area.old block (put_part (block_of area.old block) at written.now) }
 {
-    let from = (b - 2) * 4096 + at;
+    let from = (block - 2) * BLK + at;
     let end = from + 512;
-    sector::copy(&mut area[from..end], d);
+    area[from..end].copy_from_slice(written);
 }
 
-// What sector `q` of a new block is filled with: 0x00 where the host wrote zeros before, 0xFF elsewhere.
-fn new_byte(x: St, s: u32, q: u32) -> u8
-    requires { (s < 64) × (q < 8) }
-    ensures { result ≡ pick (bit x.map (s / 8 * 8 + q)) 0x00 0xFF }
+// What sector `place` of a new block is filled with: 0x00 where the host wrote zeros before, 0xFF elsewhere.
+fn new_byte(slot: &St, s: u32, place: u32) -> u8
+    requires { (s < 64) × (place < 8) }
+    ensures { result ≡ pick (bit slot.now.map (s / 8 * 8 + place)) 0x00 0xFF }
 {
-    if bits::test_u64(x.map, s / 8 * 8 + q) {
+    if bits::test_u64(slot.map, s / 8 * 8 + place) {
         return 0x00;
     }
     0xFF
 }
 
-fn new_sector(area: &mut [u8], b: usize, x: St, s: u32, q: u32)
-    requires { InArea area.old b × (s < 64) × (q < 8) }
-    ensures { area.new ≡ area_with area.old b (put_part (block_of area.old b) (q * 512) (new_sector x s q)) }
+fn new_sector(area: &mut [u8], block: usize, slot: &St, s: u32, place: u32)
+    requires { InArea area.old block × (s < 64) × (place < 8) }
+    ensures { area.new ≡ area_with area.old block (put_part (block_of area.old block) (place * 512) (new_sector slot.now s place)) }
 {
-    let from = (b - 2) * 4096 + q as usize * 512;
+    let from = (block - 2) * BLK + place as usize * 512;
     let end = from + 512;
-    let v = new_byte(x, s, q);
-    sector::fill(&mut area[from..end], v);
+    let byte = new_byte(slot, s, place);
+    area[from..end].fill(byte);
 }
 
 // A new block.
-fn new_block(area: &mut [u8], b: usize, x: St, s: u32)
-    requires { InArea area.old b × (s < 64) }
-    ensures { area.new ≡ area_with area.old b (new_block x s) }
+fn new_block(area: &mut [u8], block: usize, slot: &St, s: u32)
+    requires { InArea area.old block × (s < 64) }
+    ensures { area.new ≡ area_with area.old block (new_block slot.now s) }
 {
-    for q in 0..8 {
-        new_sector(area, b, x, s, q);
+    for place in 0..8 {
+        new_sector(area, block, slot, s, place);
     }
 }
 
-// The bytes of another block, put into block `b`.
-fn copy_block(area: &mut [u8], b: usize, from: usize)
-    requires { InArea area.old b × InArea area.old from × (from ≡ b → ⊥) }
-    ensures { area.new ≡ area_with area.old b (block_of area.old from) }
+// The bytes of another block, put into a block.
+fn copy_block(area: &mut [u8], block: usize, other: usize)
+    requires { InArea area.old block × InArea area.old other }
+    ensures { area.new ≡ area_with area.old block (block_of area.old other) }
 {
-    let to_at = (b - 2) * 4096;
-    let from_at = (from - 2) * 4096;
-    for j in 0..4096 {
-        let v = area[from_at + j];
-        area[to_at + j] = v;
-    }
+    let to = (block - 2) * BLK;
+    let from = (other - 2) * BLK;
+    let end = from + BLK;
+    area.copy_within(from..end, to);
 }
 
 // What the sector is put into: a new block where none is held, else the bytes of the held one.
-fn source_block(area: &mut [u8], b: usize, x: St, s: u32)
-    requires { InArea area.old b × (s < 64) × HeldIn area.old x s }
-    ensures { area.new ≡ area_with area.old b (source_block area.old x s) }
+fn source_block(area: &mut [u8], block: usize, slot: &St, s: u32)
+    requires { InArea area.old block × (s < 64) × HeldIn area.old slot.now s }
+    ensures { area.new ≡ area_with area.old block (source_block area.old slot.now s) }
 {
-    let j = (s / 8) as usize;
-    let held = x.blk[j] as usize;
+    let held = held_for(slot, s) as usize;
     if held == 0 {
-        new_block(area, b, x, s);
+        new_block(area, block, slot, s);
         return;
     }
-    if held != b {
-        copy_block(area, b, held);
-        return;
+    if held != block {
+        copy_block(area, block, held);
     }
 }
 
-// The sector put into block `b`, over what the block held for it has.
-pub fn fill_block(area: &mut [u8], b: usize, x: St, s: u32, d: &[u8])
-    requires { InArea area.old b × (s < 64) × HeldIn area.old x s × (length d.now ≡ 512) }
-    ensures { area.new ≡ area_with area.old b (filled_block area.old x s d.now) }
+// The sector put into a block, over what the block held for it has.
+pub fn fill_block(area: &mut [u8], block: usize, slot: &St, s: u32, written: &Sector)
+    requires { InArea area.old block × (s < 64) × HeldIn area.old slot.now s }
+    ensures { area.new ≡ area_with area.old block (filled_block area.old slot.now s written.now) }
 {
-    source_block(area, b, x, s);
+    source_block(area, block, slot, s);
     let at = (s % 8) as usize * 512;
-    put_sector(area, b, at, d);
+    put_sector(area, block, at, written);
 }

@@ -1,49 +1,35 @@
 // Files that staged data names.
-ghost use Rattle.std.specs.Prelude.{◌≡◌, ◌&&◌, ℕ, length};
-ghost use Rattle.loops.specs.Loops.{pick};
-ghost use Rattle.loops.specs.Rows.{rows};
-ghost use Rattle.bits.specs.Bit.{set_bit};
+ghost use Rattle.std.specs.Prelude.{◌≡◌, ◌&&◌, not, map};
+ghost use Rattle.bits.specs.Bit.{bit};
 ghost use Rattle.vdisk.specs.Ids.{turned};
+ghost use Rattle.file_table.specs.Files.{id_of, start_of, size_of, with_ids};
 ghost use Rattle.slots.specs.Slots.{refers_to};
-ghost use Rattle.staging.specs.Staging.{move_id, moved_ids};
-ghost use Rattle.staging.specs.MoveLaws.{table_write};
+ghost use Rattle.staging.specs.Staging.{moved_ids, table_write};
 
+use file_table::VF;
+use sector::Sector;
+use slots::refers::refers;
 use vdisk::ids::{MOVED, TURNED};
 
-// A turned file that the data names becomes moved.
-fn move_id(id: u16, start: u16, size: u32, d: &[u8]) -> u16
-    requires { length d.now ≡ 512 }
-    ensures { result ≡ pick (turned id && refers_to d.now start size) (set_bit id 15) id }
+// A turned file that the data names, and that isn't moved yet.
+fn becomes_moved(file: &VF, written: &Sector) -> bool
+    ensures { result ≡ (turned file.now.id && not (bit file.now.id 15) && refers_to written.now file.now.vstart file.now.vsize) }
 {
-    if !bits::test_u16(id, TURNED) {
-        return id;
-    }
-    if bits::test_u16(id, MOVED) {
-        return id;
-    }
-    if !slots::refers::refers(d, start, size) {
-        return id;
-    }
-    bits::set_u16(id, MOVED)
-}
-
-fn note_moves(ids: &mut [u16], starts: &[u16], sizes: &[u32], d: &[u8])
-    requires { (length starts.now ≡ length ids.old) × (length sizes.now ≡ length ids.old) × (length d.now ≡ 512) }
-    ensures { ids.new ≡ rows (move_id (table_write ids.old starts.now sizes.now d.now)) ids.old }
-{
-    for j in 0..ids.len() {
-        let id = move_id(ids[j], starts[j], sizes[j], d);
-        ids[j] = id;
-    }
+    bits::test_u16(file.id, TURNED)
+        && !bits::test_u16(file.id, MOVED)
+        && refers(written, file.vstart, file.vsize)
 }
 
 // Non-zero data marks the files that it names.
-pub fn mark_moved(ids: &mut [u16], starts: &[u16], sizes: &[u32], d: &[u8])
-    requires { (length starts.now ≡ length ids.old) × (length sizes.now ≡ length ids.old) × (length d.now ≡ 512) }
-    ensures { ids.new ≡ moved_ids (table_write ids.old starts.now sizes.now d.now) }
+pub fn mark_moved(files: &mut [VF], written: &Sector)
+    ensures { files.new ≡ with_ids files.old (moved_ids (table_write (map id_of files.old) (map start_of files.old) (map size_of files.old) written.now)) }
 {
-    if sector::is_zero(d) {
+    if sector::is_zero(written) {
         return;
     }
-    note_moves(ids, starts, sizes, d);
+    for j in 0..files.len() {
+        if becomes_moved(&files[j], written) {
+            files[j].id = bits::set_u16(files[j].id, MOVED);
+        }
+    }
 }

@@ -1,21 +1,61 @@
-use Prim.Native.Nat.{◌<◌}
-use mathlib.Core.Path.{sym, subst, ap}
-use native.Mathlib.Omega.{arith}
-use Rattle.state.specs.Setters.{with_st, with_staging, with_stage_t, with_hint, with_ver}
-use Rattle.staging.specs.Staging.{Staged, stage_write, move_id, moved_ids}
-use Rattle.stage.specs.declared.slot.SlotFor.{SlotFor}
-use Rattle.stage.proofs.CallLaws.{stage-by, slot-lt}
+use mathlib.Core.Bool.{false}
+use mathlib.Core.Path.{refl, sym, ◌∙◌}
+use Rattle.state.specs.Staged.{slot_of}
+use Rattle.staging.specs.Staging.{stage_in, move_id, moved_ids, stage}
+use Rattle.file_table.proofs.FileRows.{same-ids}
+use Rattle.stage.proofs.ApartLaws.{found-apart}
+use Rattle.refusals.proofs.Numbers.{told-err, value-err}
 use Rattle.stage.proofs.stage.Goals as goal
 
--- src/lib.rt:222:5
-pub offset_bounds-w-i : goal.offset_bounds-w-i
-offset_bounds-w-i c = omega (arith, subst (λ (t : SlotFor). t.i < 28) (sym c.slot_for-at.ensures) (slot-lt _ _ _ _))
+pub returns-then-busy : goal.returns-then-busy
+unfolding stage
+returns-then-busy c = simp c.if-busy.true (record { number = refl; changed = refl; state = refl; table = sym (same-ids c.args.files.now); medium = refl })
 
--- src/lib.rt:222:5
-pub bounds-w-i : goal.bounds-w-i
-bounds-w-i c = subst (λ (t : SlotFor). t.i < 28) (sym c.slot_for-at.ensures) (slot-lt _ _ _ _)
+pub returns-in_err-changed : goal.returns-in_err-changed
+unfolding stage
+returns-in_err-changed c =
+    let a = c.args in
+    let x = stage_in a.c a.s a.written.now false a.fat.now a.area.now a.files.now in
+    let m = c.in_err-changed.ensures in
+    let p = c.from_residual.ensures.1 in
+    simp c.if-busy.false
+    (rw (found-apart x a.w.now (slot_of a.w.now.st a.c))
+    (record {
+      number = told-err _ _ p ∙ m.number;
+      changed = value-err _ _ _ p ∙ m.changed;
+      state = m.state;
+      table = rw (sym m.changed) (sym (same-ids a.files.now));
+      medium = m.medium;
+    }))
 
--- src/lib.rt:196:1
-pub returns : goal.returns
-unfolding with_st with_staging with_stage_t with_hint with_ver moved_ids move_id
-returns c = let g = stage-by (stage_write c.args.c c.args.s c.args.d.now c.args.busy c.args.fat.now c.args.area.now c.args.ids.now c.args.starts.now c.args.sizes.now) c.args.w c.fate_in-o.result c.keep-then.result _ _ c.slot_for-at.result c.slot_for-at.ensures c.fate_in-o.ensures c.keep-then.ensures c.mark_staged.ensures in record { number = ap (λ (t : Staged). t.number) g; changed = ap (λ (t : Staged). t.changed) g; state = ap (λ (t : Staged). t.w) g; table = ap (λ (t : Staged). t.ids) g; medium = ap (λ (t : Staged). t.area) g }
+pub returns-then-changed : goal.returns-then-changed
+unfolding stage move_id moved_ids
+returns-then-changed c =
+    let a = c.args in
+    let x = stage_in a.c a.s a.written.now false a.fat.now a.area.now a.files.now in
+    let m = c.in_ok-changed.ensures in
+    simp c.if-busy.false
+    (rw (found-apart x a.w.now (slot_of a.w.now.st a.c))
+    (record {
+      number = m.number;
+      changed = m.changed;
+      state = m.state;
+      table = rw (sym m.changed ∙ c.if-changed.true) c.mark_moved.ensures;
+      medium = m.medium;
+    }))
+
+pub returns-else-changed : goal.returns-else-changed
+unfolding stage
+returns-else-changed c =
+    let a = c.args in
+    let x = stage_in a.c a.s a.written.now false a.fat.now a.area.now a.files.now in
+    let m = c.in_ok-changed.ensures in
+    simp c.if-busy.false
+    (rw (found-apart x a.w.now (slot_of a.w.now.st a.c))
+    (record {
+      number = m.number;
+      changed = m.changed;
+      state = m.state;
+      table = rw (sym m.changed ∙ c.if-changed.false) (sym (same-ids a.files.now));
+      medium = m.medium;
+    }))

@@ -3,4 +3,4 @@ use Rattle.staging.specs.FillLaws.{filled}
 use Rattle.staging.proofs.blocks.fill_block.Goals as goal
 
 pub returns : goal.returns
-returns c = c.put_sector.ensures ∙ filled _ _ _ c.args.x c.args.s _ c.requires.0 c.requires.2 c.source_block.ensures
+returns c = c.put_sector.ensures ∙ filled _ _ _ c.args.slot.now c.args.s _ c.requires.0 c.requires.2 c.source_block.ensures

@@ -1,6 +1,0 @@
-use Rattle.staging.specs.Blocks.{written_st}
-use Rattle.staging.proofs.blocks.written.Goals as goal
-
-pub returns : goal.returns
-unfolding written_st
-returns c = simp (← c.set_u64-map.ensures)
