@@ -12,7 +12,7 @@ use Rattle.vdisk.specs.declared.owner.Own.{Own}
 use Rattle.vdisk.specs.declared.owner.Own.TheVariants.{Reserved, Fixed, Dyn, Free}
 use Rattle.file_table.specs.Table.{Table, max_files, accepts}
 use Rattle.file_table.specs.declared.VF.{VF}
-use Rattle.files.specs.Files.{start_of, size_of}
+use Rattle.file_table.specs.Files.{start_of, size_of}
 use Rattle.records.specs.declared.Rec.{Rec}
 use Rattle.names.specs.Names.{first_host_slot}
 use Rattle.root_slots.specs.RootSlots.{strict_of}

@@ -6,15 +6,14 @@ use Rattle.std.proofs.Math.Path.{ap}
 use Rattle.std.proofs.Common.{◌∙◌, arith}
 use Rattle.file_table.specs.Table.{Table, columns}
 use Rattle.file_table.specs.declared.VF.{VF}
-use Rattle.files.specs.Files.{id_of, dir_slot_of, start_of, size_of, with_id, with_ids}
+use Rattle.file_table.specs.Files.{id_of, dir_slot_of, start_of, size_of, with_id, with_ids}
 use Rattle.state.specs.declared.w.W.{W}
-use Rattle.write.specs.Write.{Written, write as written}
+use Rattle.write.specs.Write.{Written, files_written, write as written}
 use Rattle.release.specs.Release.{Lending, Ended, release_all_call, release_call}
 use Rattle.sessions.specs.Poll.{poll_call}
 use Rattle.sessions.specs.Sessions.{Reported, Started, bus_reset_call, mode_reset, set_read_only as read_only_set, report_gone, start}
 use Rattle.release.specs.Release.{files_lending, end_answer, EndsBy}
 use Rattle.release.specs.Release.{EndAnswer}
-use Rattle.table_calls.specs.Calls.{files_written}
 use Rattle.demand3.specs.Step.{Session, Outcome, Medium, Sector, Call, write, poll, release, release_all, bus_reset, reset_mode, set_read_only, report, refused_start, sector_of, lent, of_ended, step}
 use Rattle.demand3.specs.History.{History, event, next, run}
 use Rattle.demand3_linked.specs.Linked.{Lent, Answer, Ensures, Result, numbered, end_result, result_of, Linked, none, more, result_by, results_in}

@@ -9,8 +9,8 @@ use Rattle.vdisk.specs.Ids.{handed}
 use Rattle.file_table.specs.Table.{Table, max_files, columns, accepts}
 use Rattle.file_table.specs.Accepted.{accepted}
 use Rattle.file_table.specs.declared.VF.{VF}
-use Rattle.files.specs.Files.{id_of, dir_slot_of, start_of, size_of}
-use Rattle.files.specs.FilesLaws.{same-ids}
+use Rattle.file_table.specs.Files.{id_of, dir_slot_of, start_of, size_of}
+use Rattle.file_table.proofs.FileRows.{same-ids}
 use Rattle.state.specs.State.{initial}
 use Rattle.state.specs.declared.w.W.{W}
 use Rattle.sessions.specs.Sessions.{start}

@@ -3,7 +3,7 @@ use Rattle.std.specs.Prelude.{ℕ, ◌<◌, Bool, true, false, not, ◌||◌, Li
 use Rattle.std.proofs.Math.Bool.{So}
 use Rattle.file_table.specs.Table.{Table, columns, accepts}
 use Rattle.file_table.specs.declared.VF.{VF}
-use Rattle.files.specs.Files.{id_of, dir_slot_of, start_of, size_of, with_ids}
+use Rattle.file_table.specs.Files.{id_of, dir_slot_of, start_of, size_of, with_ids}
 use Rattle.state.specs.declared.w.W.{W}
 use Rattle.release.specs.Release.{release_call, release_all_call}
 use Rattle.sessions.specs.Poll.{poll_call}
@@ -12,7 +12,7 @@ use Rattle.release.specs.Release.{EndsBy}
 use Rattle.sessions.specs.Calls.{ReportsBy, StartsBy, AsksMode, SetsMode}
 use Rattle.release.specs.Release.{EndAnswer}
 use Rattle.sessions.specs.Calls.{HandedAnswer}
-use Rattle.table_calls.specs.Calls.{WritesBy}
+use Rattle.write.specs.Write.{WritesBy}
 use Rattle.demand3.specs.Step.{Session, Outcome, Call, write, poll, release, release_all, bus_reset, reset_mode, set_read_only, report, refused_start}
 use Rattle.demand3.specs.History.{Event, History, run, begun, lately, turned_in, zeroed_in, named_in, gone_in}
 

@@ -144,8 +144,8 @@ fn lengthen(input: &mut [u8]) {
     if n < 27 {
         return;
     }
-    sector::copy(&mut input[..20], b"entry shown written\n");
-    sector::copy(&mut input[n - 7..n], b"9 0 10\n");
+    input[..20].copy_from_slice(b"entry shown written\n");
+    input[n - 7..n].copy_from_slice(b"9 0 10\n");
 }
 
 fn lengths(out: &mut Output<impl Write>) {

@@ -40,9 +40,8 @@ fn lines(out: &mut Output<impl Write>, input: &[u8], from: usize, first: W) -> L
         let Some(line) = next_line(input, at) else {
             return bad(out, w);
         };
-        let o = entry_write(w, line.entry, line.shown, line.written);
-        show(out, o.row);
-        w = o.w;
+        let row = entry_write(&mut w, line.entry, line.shown, line.written);
+        show(out, row);
         at = line.next;
     }
     Listing { ok: true, w }

@@ -1,5 +1,5 @@
 -- How a written sector is classified (document 01, "Judging a sector").
-use Rattle.std.specs.Prelude.{ℕ, Bool, true, false, ◌||◌, List, eqb, get_or, Option, Some, None}
+use Rattle.std.specs.Prelude.{ℕ, Bool, true, false, ◌||◌, List, map, ◌≡◌, eqb, get_or, Option, Some, None, Result}
 use Rattle.loops.specs.Loops.{pick, all}
 use Rattle.sector.specs.Bytes.{same, same_at}
 use Rattle.vdisk.specs.Drive.{place_of, dir_kind_of}
@@ -8,6 +8,10 @@ use Rattle.vdisk.specs.declared.drive.Place.{Place}
 use Rattle.vdisk.specs.declared.drive.Place.TheVariants.{Boot, Fat, Root, Data, Outside}
 use Rattle.vdisk.specs.declared.owner.Own.{Own}
 use Rattle.vdisk.specs.declared.owner.Own.TheVariants.{Reserved, Fixed, Dyn, Free}
+use Rattle.file_table.specs.Files.{id_of, dir_slot_of, start_of, size_of, with_ids}
+use Rattle.file_table.specs.declared.VF.{VF}
+use Rattle.refusals.specs.Refusals.{told, value_or}
+use Rattle.refusals.specs.declared.Refusal.{Refusal}
 use Rattle.state.specs.Setters.{with_boot}
 use Rattle.state.specs.declared.w.W.{W}
 use Rattle.clusters.specs.Clusters.{host_cluster}
@@ -33,6 +37,11 @@ abbrev pub sector_write : ℕ → List ℕ → List ℕ → Bool → List ℕ �
 sector_write lba shown written busy fat area ids slots starts sizes =
     record { lba = lba; shown = shown; written = written; busy = busy; fat = fat; area = area; ids = ids; slots = slots; starts = starts; sizes = sizes }
 
+-- of a lent table
+abbrev pub files_write : ℕ → List ℕ → List ℕ → Bool → List ℕ → List ℕ → List VF → SectorWrite
+files_write lba shown written busy fat area files =
+    sector_write lba shown written busy fat area (map id_of files) (map dir_slot_of files) (map start_of files) (map size_of files)
+
 -- How it was judged: the refusal number, 0 where it is taken; whether that opens the session; the state, the table's ids and the data area then.
 pub record Outcome : Type 0 where
   pub number : ℕ
@@ -40,6 +49,14 @@ pub record Outcome : Type 0 where
   pub w : W
   pub ids : List ℕ
   pub area : List ℕ
+
+-- A call that judges leaves that: what it tells, the state, the files with these ids, the data area.
+pub record Leaves (o : Outcome) (files : List VF) (told_by : Result Bool Refusal) (w_left : W) (files_left : List VF) (area_left : List ℕ) : Type 0 where
+  pub number : told told_by ≡ o.number
+  pub changed : value_or false told_by ≡ o.changed
+  pub state : w_left ≡ o.w
+  pub table : files_left ≡ with_ids files o.ids
+  pub medium : area_left ≡ o.area
 
 abbrev pub refused : SectorWrite → W → ℕ → Outcome
 refused x w n = record { number = n; changed = false; w = w; ids = x.ids; area = x.area }

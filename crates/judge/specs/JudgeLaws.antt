@@ -71,55 +71,6 @@ module _ (lba : ℕ) where
       let q : (ltb c 65536 && ltb s 64) ≡ true = rw e at (place-fits lba) in
       (ltb-true c 65536 (and-0 (ltb c 65536) (ltb s 64) q), ltb-true s 64 (and-1 (ltb c 65536) (ltb s 64) q))
 
--- what is accepted unchanged, part by part
-module _ (x : SectorWrite) (w : W) (o : Outcome) where
-  pub shown-number : (unless_shown x w o).number ≡ pick (same x.shown x.written) 0 o.number
-  unfolding unless_shown
-  shown-number = either (same x.shown x.written) (λ e. rw e) (λ e. rw e)
-
-  pub shown-changed : (unless_shown x w o).changed ≡ pick (same x.shown x.written) false o.changed
-  unfolding unless_shown
-  shown-changed = either (same x.shown x.written) (λ e. rw e) (λ e. rw e)
-
-  pub shown-state : (unless_shown x w o).w ≡ pick (same x.shown x.written) w o.w
-  unfolding unless_shown
-  shown-state = either (same x.shown x.written) (λ e. rw e) (λ e. rw e)
-
-  pub shown-ids : (unless_shown x w o).ids ≡ pick (same x.shown x.written) x.ids o.ids
-  unfolding unless_shown
-  shown-ids = either (same x.shown x.written) (λ e. rw e) (λ e. rw e)
-
-  pub same-ids : x.ids ≡ o.ids → x.ids ≡ (unless_shown x w o).ids
-  unfolding unless_shown
-  same-ids q = either (same x.shown x.written) (λ e. rw e) (λ e. rw e q)
-
-  pub same-area : x.area ≡ o.area → x.area ≡ (unless_shown x w o).area
-  unfolding unless_shown
-  same-area q = either (same x.shown x.written) (λ e. rw e) (λ e. rw e q)
-
--- and the boot sector
-module _ (x : SectorWrite) (w : W) where
-  pub boot-number : (unless_shown x w (boot x w)).number ≡ pick (same x.shown x.written) 0 (pick (boot_passes x.shown x.written) 0 3)
-  unfolding unless_shown boot
-  boot-number = either (same x.shown x.written) (λ e. rw e) (λ e. either (boot_passes x.shown x.written) (λ b. rw (e, b)) (λ b. rw (e, b)))
-
-  pub boot-changed : (unless_shown x w (boot x w)).changed ≡ pick (same x.shown x.written) false (boot_passes x.shown x.written)
-  unfolding unless_shown boot
-  boot-changed = either (same x.shown x.written) (λ e. rw e) (λ e. either (boot_passes x.shown x.written) (λ b. rw (e, b)) (λ b. rw (e, b)))
-
-  pub boot-state : (unless_shown x w (boot x w)).w
-      ≡ pick (same x.shown x.written) w (pick (boot_passes x.shown x.written) (with_boot w (get_or x.written 0x25 0)) w)
-  unfolding unless_shown boot
-  boot-state = either (same x.shown x.written) (λ e. rw e) (λ e. either (boot_passes x.shown x.written) (λ b. rw (e, b)) (λ b. rw (e, b)))
-
-  pub boot-ids : x.ids ≡ (boot x w).ids
-  unfolding boot
-  boot-ids = either (boot_passes x.shown x.written) (λ e. rw e) (λ e. rw e)
-
-  pub boot-area : x.area ≡ (boot x w).area
-  unfolding boot
-  boot-area = either (boot_passes x.shown x.written) (λ e. rw e) (λ e. rw e)
-
 -- a cluster's sector is told by cluster and sector alone
 module _ (a b : ℕ) (shown written : List ℕ) (busy : Bool) (fat area ids slots starts sizes : List ℕ) (w : W) (c s : ℕ) where
   pub cluster-place : (k : Option ℕ)

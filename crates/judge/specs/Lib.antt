@@ -1,4 +1,3 @@
 -- How a written sector is judged by its place.
 pub mod Classify
-pub mod Lent
 pub mod JudgeLaws

@@ -1,31 +1,33 @@
 // A written boot sector.
-ghost use Rattle.std.specs.Prelude.{◌≡◌, ◌||◌, ◌<◌, eqb, length, get_or};
+ghost use Rattle.std.specs.Prelude.{◌≡◌, ◌||◌, ◌<◌, eqb, get_or};
 ghost use Rattle.loops.specs.Loops.{pick};
 ghost use Rattle.sector.specs.Bytes.{same_at};
+ghost use Rattle.refusals.specs.Refusals.{told};
 ghost use Rattle.state.specs.Setters.{with_boot};
 ghost use Rattle.judge.specs.Classify.{boot_passes};
 
-use state::w::{Judged, W};
+use refusals::Refusal;
+use sector::{Sector, Sectors};
+use state::w::W;
 
 // The one byte that may differ: whether the drive was unmounted cleanly.
 const STATE_AT: usize = 0x25;
 
-fn byte_passes(g: &[u8], d: &[u8], i: usize) -> bool
-    requires { (length g.now ≡ 512) × (length d.now ≡ 512) × (i < 512) }
-    ensures { result ≡ (eqb i 0x25 || same_at g.now d.now i) }
+fn byte_passes(shown: &Sector, written: &Sector, i: usize) -> bool
+    requires { i < 512 }
+    ensures { result ≡ (eqb i 0x25 || same_at shown.now written.now i) }
 {
     if i == STATE_AT {
         return true;
     }
-    g[i] == d[i]
+    shown[i] == written[i]
 }
 
-pub fn boot_passes(g: &[u8], d: &[u8]) -> bool
-    requires { (length g.now ≡ 512) × (length d.now ≡ 512) }
-    ensures { result ≡ boot_passes g.now d.now }
+fn boot_passes(shown: &Sector, written: &Sector) -> bool
+    ensures { result ≡ boot_passes shown.now written.now }
 {
     for i in 0..512 {
-        if !byte_passes(g, d, i) {
+        if !byte_passes(shown, written, i) {
             return false;
         }
     }
@@ -33,23 +35,15 @@ pub fn boot_passes(g: &[u8], d: &[u8]) -> bool
 }
 
 // Only byte 0x25 may differ; it is kept.
-pub fn boot(mut w: W, g: &[u8], d: &[u8]) -> Judged
-    requires { (length g.now ≡ 512) × (length d.now ≡ 512) }
-    ensures number { result.no ≡ pick (boot_passes g.now d.now) 0 3 }
-    ensures changed { result.changed ≡ boot_passes g.now d.now }
-    ensures state { result.w ≡ pick (boot_passes g.now d.now) (with_boot w (get_or d.now 0x25 0)) w }
+pub(crate) fn boot(w: &mut W, sectors: Sectors) -> Result<(), Refusal>
+    ensures number { told result ≡ pick (boot_passes sectors.entry.shown.now sectors.entry.written.now) 0 3 }
+    ensures state { w.new ≡ pick (boot_passes sectors.entry.shown.now sectors.entry.written.now) (with_boot w.old (get_or sectors.entry.written.now 0x25 0)) w.old }
 {
-    if !boot_passes(g, d) {
-        return Judged {
-            no: 3,
-            changed: false,
-            w: w,
-        };
+    let shown = sectors.shown;
+    let written = sectors.written;
+    if !boot_passes(shown, written) {
+        return Err(Refusal::BootByte);
     }
-    w.boot = d[STATE_AT];
-    Judged {
-        no: 0,
-        changed: true,
-        w: w,
-    }
+    w.boot = written[STATE_AT];
+    Ok(())
 }

@@ -2,6 +2,6 @@
 
 #![tactic(auto)]
 
-pub mod boot;
+mod boot;
 pub mod classify;
-pub mod places;
+mod data;

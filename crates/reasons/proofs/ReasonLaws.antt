@@ -118,10 +118,3 @@ pub after-marked : (r : Reason) (ended id : ℕ) (named b : Bool) → ended ≡ 
     → after_end r ended id named ≡ record { turned = r.turned; zeroed = r.zeroed; moved = r.moved; named = b || r.named; gone = r.gone }
 unfolding after_end
 after-marked r ended id named b e u q = rw (eq-eqb ended 1 e, u, q)
-
--- both sectors have 512 bytes
-pub whole-lengths : (shown written : List ℕ) → (eqb (length shown) 512 && eqb (length written) 512) ≡ true → (length shown ≡ 512) × (length written ≡ 512)
-whole-lengths shown written e =
-    let a = eqb (length shown) 512 in
-    let b = eqb (length written) 512 in
-    (eqb-true (length shown) 512 (and-0 a b e), eqb-true (length written) 512 (and-1 a b e))

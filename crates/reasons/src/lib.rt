@@ -2,11 +2,12 @@
 
 #![tactic(auto)]
 
-ghost use Rattle.std.specs.Prelude.{◌≡◌, [], ◌∷◌, ◌<◌, length, true, false};
+ghost use Rattle.std.specs.Prelude.{◌≡◌, [], ◌∷◌, ◌<◌, true, false};
 ghost use Rattle.vdisk.specs.Drive.{dir_kind_of};
 ghost use Rattle.marks.specs.Seen.{turns_in, all_zero, zeroes_in};
 ghost use Rattle.reasons.specs.Reasons.{file_alone, no_reason, with_seen, moved_then, after_write, after_end, after_gone};
 
+use sector::Sector;
 use vdisk::drive::{Place, dir_kind, nclus, place_of};
 use vdisk::ids::{id_dir, is_unmarked};
 
@@ -37,8 +38,7 @@ pub fn no_reason() -> Reason
 }
 
 // Does sector `s` of cluster `c` turn the file's slot.
-fn turns(id: u16, slot: u16, c: u32, s: u32, shown: &[u8], written: &[u8]) -> bool
-    requires { (length shown.now ≡ 512) × (length written.now ≡ 512) }
+fn turns(id: u16, slot: u16, c: u32, s: u32, shown: &Sector, written: &Sector) -> bool
     ensures { result ≡ turns_in (file_alone id slot 0 0) 0 s shown.now written.now (dir_kind_of c) }
 {
     match dir_kind(c) {
@@ -56,15 +56,15 @@ fn turns(id: u16, slot: u16, c: u32, s: u32, shown: &[u8], written: &[u8]) -> bo
 }
 
 // Are the file's entries in FAT sector `s` all 0: those from its first cluster in the sector to its last.
-fn all_zero(start: u16, size: u32, s: u32, sector: &[u8]) -> bool
-    requires { (s < 254) × (length sector.now ≡ 512) }
+fn all_zero(start: u16, size: u32, s: u32, sector: &Sector) -> bool
+    requires { s < 254 }
     ensures { result ≡ all_zero (start ∷ []) (size ∷ []) 0 s sector.now }
 {
     let first = start as u32;
     let end = first + nclus(size);
     let base = s * 256;
-    let from = num::max_u32(first, base);
-    let last = num::min_u32(end, base + 256);
+    let from = first.max(base);
+    let last = end.min(base + 256);
     for c in from..last {
         let at = (c - base) as usize * 2;
         if sector::le16(sector, at) != 0 {
@@ -75,8 +75,8 @@ fn all_zero(start: u16, size: u32, s: u32, sector: &[u8]) -> bool
 }
 
 // Does FAT sector `s` zero the file's entries, one of them shown otherwise.
-fn zeroes(start: u16, size: u32, s: u32, shown: &[u8], written: &[u8]) -> bool
-    requires { (s < 254) × (length shown.now ≡ 512) × (length written.now ≡ 512) }
+fn zeroes(start: u16, size: u32, s: u32, shown: &Sector, written: &Sector) -> bool
+    requires { s < 254 }
     ensures { result ≡ zeroes_in (file_alone 0 0 start size) 0 s shown.now written.now }
 {
     if !all_zero(start, size, s, written) {
@@ -86,8 +86,14 @@ fn zeroes(start: u16, size: u32, s: u32, shown: &[u8], written: &[u8]) -> bool
 }
 
 // Has the file moved: before, or as data that names it is staged after its turn.
-fn moved_by(moved: bool, turned: bool, start: u16, size: u32, written: &[u8], staged: bool) -> bool
-    requires { length written.now ≡ 512 }
+fn moved_by(
+    moved: bool,
+    turned: bool,
+    start: u16,
+    size: u32,
+    written: &Sector,
+    staged: bool,
+) -> bool
     ensures { result ≡ moved_then start size written.now staged turned moved }
 {
     if moved {
@@ -136,9 +142,12 @@ pub fn after_write(
     if number != 0 {
         return r;
     }
-    if !write::lent::whole_sectors(shown, written) {
+    let Some(shown) = shown.as_array::<512>() else {
         return r;
-    }
+    };
+    let Some(written) = written.as_array::<512>() else {
+        return r;
+    };
     r.moved = moved_by(r.moved, r.turned, start, size, written, staged);
     match place_of(lba) {
         Place::Boot => r,

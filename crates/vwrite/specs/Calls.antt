@@ -11,7 +11,7 @@ use Rattle.medium.specs.Reads.{staged_answer, staged_bytes}
 use Rattle.chains.specs.Chains.{complete_of}
 use Rattle.body.specs.Body.{body_of}
 use Rattle.crc.specs.Crc.{crc_of}
-use Rattle.table_calls.specs.Calls.{WritesBy}
+use Rattle.write.specs.Write.{WritesBy}
 use Rattle.state_calls.specs.Answers.{pair_answer, dir_answer, files_owner}
 use Rattle.state_calls.specs.declared.OwnRow.{OwnRow}
 

@@ -1,6 +1,5 @@
-// The calls that a firmware links. Each takes the state or the table that it is lent apart for a proved function over values,
-// and stores what that gives back. Each answers a number and writes the rest through references, since a returned struct passes
-// differently on 32-bit machines.
+// The calls that a firmware links. Each lends what it is lent on, answers a number, and writes the rest through references, since a
+// returned struct passes differently on 32-bit machines.
 
 #![tactic(auto)]
 
@@ -9,15 +8,14 @@ ghost use Rattle.vwrite.specs.Calls.{TellsChain, ChecksBody, TellsCrc, TellsStri
 
 use crc::crc16_upd;
 use file_table::VF;
-use files::load;
-use outer_write::judged::judged;
+use refusals::told;
 use state::queries::{boot_state, fat1, frozen};
 use state::w::{NST, W};
 use state_calls::{
     OwnRow, body_check, complete, dir_kind, owner, pair, root_rec, staged_read, strict_name,
 };
 use vdisk::drive::nclus;
-use write::early::{early_of, tally_of};
+use write::write;
 
 // A written sector is judged: the refusal number, 0 where it is taken.
 #[unsafe(no_mangle)]
@@ -34,15 +32,7 @@ pub extern "C" fn vwrite_write(
     ensures { Writes lba shown.now written.now busy fat.now area.old w.old files.old
         result w.new files.new area.new }
 {
-    let e = early_of(w.rw, files.len(), lba, shown, written);
-    if e.settled {
-        let t = tally_of(e.no, lba, w.now_ms, w.last, w.err, w.n);
-        w.last = t.last;
-        w.err = t.err;
-        w.n = t.n;
-        return e.no;
-    }
-    judged(w, files, lba, shown, written, busy, fat, area)
+    told(write(w, files, lba, shown, written, busy, fat, area))
 }
 
 // A sector of a staged cluster into `out`, zeros where the host wrote none: the refusal number, and whether the cluster is staged.
@@ -58,7 +48,7 @@ pub extern "C" fn vwrite_staged_read(
 ) -> u8
     ensures { ReadsStaged fat.now area.now w.now c s out.old result staged.new out.new }
 {
-    staged_read(w.st, fat, area, c, s, out, staged)
+    staged_read(&w.st, fat, area, c, s, out, staged)
 }
 
 // The host's FAT entry of a cluster: is there one, and its value.
@@ -66,7 +56,7 @@ pub extern "C" fn vwrite_staged_read(
 pub extern "C" fn vwrite_pair(w: &W, c: u32, v: &mut u16) -> bool
     ensures { TellsPair w.now c result v.new }
 {
-    pair(w.pair, c, v)
+    pair(&w.pair, c, v)
 }
 
 // The host's record in a root slot: is there one, and its bytes.
@@ -74,7 +64,7 @@ pub extern "C" fn vwrite_pair(w: &W, c: u32, v: &mut u16) -> bool
 pub extern "C" fn vwrite_root_rec(w: &W, slot: usize, e: &mut [u8; 32]) -> bool
     ensures { TellsRecord w.now slot result e.new }
 {
-    root_rec(w.rec, slot, e)
+    root_rec(&w.rec, slot, e)
 }
 
 // The boot byte as the host wrote it.
@@ -82,7 +72,7 @@ pub extern "C" fn vwrite_root_rec(w: &W, slot: usize, e: &mut [u8; 32]) -> bool
 pub extern "C" fn vwrite_boot_state(w: &W) -> u8
     ensures { TellsBoot w.now result }
 {
-    boot_state(*w)
+    boot_state(w)
 }
 
 // FAT[1] as the host wrote it, 65535 if it didn't.
@@ -90,7 +80,7 @@ pub extern "C" fn vwrite_boot_state(w: &W) -> u8
 pub extern "C" fn vwrite_fat1(w: &W) -> u16
     ensures { TellsFat1 w.now result }
 {
-    fat1(*w)
+    fat1(w)
 }
 
 // The layout must not change under the host.
@@ -98,7 +88,7 @@ pub extern "C" fn vwrite_fat1(w: &W) -> u16
 pub extern "C" fn vwrite_frozen(w: &W, mounted: bool) -> bool
     ensures { TellsFrozen w.now mounted result }
 {
-    frozen(*w, mounted)
+    frozen(w, mounted)
 }
 
 // The chain of a file by its start and size: is it whole, the slots of its clusters and how many they are.
@@ -112,7 +102,7 @@ pub extern "C" fn vwrite_complete(
 ) -> bool
     ensures { TellsChain w.now start size result slots.new n.new }
 {
-    complete(w.pair, w.st, start, size, slots, n)
+    complete(&w.pair, &w.st, start, size, slots, n)
 }
 
 // The body of the update file with that start and size: the refusal number, and whether it is valid.
@@ -127,7 +117,7 @@ pub extern "C" fn vwrite_body_check(
 ) -> u8
     ensures { ChecksBody fat.now area.now w.now start size result valid.new }
 {
-    body_check(w.pair, w.st, fat, area, start, size, valid)
+    body_check(&w.pair, &w.st, fat, area, start, size, valid)
 }
 
 // The update file's CRC of more bytes, after `c`.
@@ -148,7 +138,7 @@ pub extern "C" fn vwrite_strict_name(
 ) -> u8
     ensures { TellsStrict w.now sector.now slot result housekeeping.new }
 {
-    strict_name(w.rec, sector, slot, housekeeping)
+    strict_name(&w.rec, sector, slot, housekeeping)
 }
 
 // The owner of a cluster: the refusal number, and who it is; `first` is the first session cluster.
@@ -156,11 +146,7 @@ pub extern "C" fn vwrite_strict_name(
 pub extern "C" fn vwrite_owner(files: &[VF], first: u32, c: u32, own: &mut OwnRow) -> u8
     ensures { TellsOwner files.now first c result own.new }
 {
-    let t = load(files);
-    let o = owner(t, first, c);
-    own.owner = o.owner;
-    own.row = o.row;
-    o.no
+    owner(files, first, c, own)
 }
 
 // The directory that a cluster is: is it one, and its file kind.

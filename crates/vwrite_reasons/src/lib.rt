@@ -13,7 +13,7 @@ use state_calls::named;
 pub extern "C" fn vwrite_named(w: &W, fat: &[u16], area: &[u8], start: u16, size: u32) -> bool
     ensures { TellsNamed fat.now area.now w.now start size result }
 {
-    named(w.st, fat, area, start, size)
+    named(&w.st, fat, area, start, size)
 }
 
 // What the calls held of a file, after a write that answered `number`: whether a staged sector named the file before it, and whether it staged

@@ -1,12 +1,14 @@
 -- `write` as a whole (document 01, "Judging a sector" and the two lists of refusals).
-use Rattle.std.specs.Prelude.{ℕ, max, Bool, not, ◌&&◌, ◌||◌, List, leb, eqb, length}
+use Rattle.std.specs.Prelude.{ℕ, max, Bool, not, ◌&&◌, ◌||◌, List, ◌≡◌, leb, eqb, length}
 use Rattle.loops.specs.Loops.{pick}
 use Rattle.num.specs.Num.{wrapping_next}
 use Rattle.file_table.specs.Table.{max_files, table_of, whole_columns}
+use Rattle.file_table.specs.Files.{with_ids}
+use Rattle.file_table.specs.declared.VF.{VF}
 use Rattle.state.specs.Setters.{with_session, with_last, with_err, with_n}
 use Rattle.state.specs.declared.w.Stats.{Stats}
 use Rattle.state.specs.declared.w.W.{W}
-use Rattle.judge.specs.Classify.{SectorWrite, Outcome, refused, classify}
+use Rattle.judge.specs.Classify.{SectorWrite, files_write, Outcome, refused, classify}
 
 -- the numbers of taken, refused and put off sectors go round
 abbrev pub count_ok : Stats → Stats
@@ -66,3 +68,15 @@ write x w =
     (pick (not (table_fits x w)) (unjudged x w 10)
     (pick (not w.rw) (settled x (refused x w 12))
     (settled x (classify x w))))
+
+-- what `write` leaves of a lent table
+abbrev pub files_written : ℕ → List ℕ → List ℕ → Bool → List ℕ → List ℕ → List VF → W → Written
+files_written lba shown written busy fat area files w = write (files_write lba shown written busy fat area files) w
+
+-- What the call leaves, in its contract and in demand 3's lists alike: the number, the state, the table with its ids, the data area.
+abbrev pub WritesBy : ℕ → List ℕ → List ℕ → Bool → List ℕ → List ℕ → W → List VF → ℕ → W → List VF → List ℕ → Type 0
+WritesBy lba shown written busy fat area w files r w_left files_left area_left =
+    (r ≡ (files_written lba shown written busy fat area files w).number)
+    × (w_left ≡ (files_written lba shown written busy fat area files w).w)
+    × (files_left ≡ with_ids files (files_written lba shown written busy fat area files w).ids)
+    × (area_left ≡ (files_written lba shown written busy fat area files w).area)

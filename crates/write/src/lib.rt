@@ -2,56 +2,67 @@
 
 #![tactic(auto)]
 
-pub mod early;
-pub mod lent;
 pub mod settle;
 
-ghost use Rattle.std.specs.Prelude.{◌≡◌};
-ghost use Rattle.judge.specs.Classify.{sector_write};
-ghost use Rattle.write.specs.Write.{write as written};
+ghost use Rattle.std.specs.Prelude.{◌≡◌, not, ◌≤◌, length};
+ghost use Rattle.loops.specs.Loops.{pick};
+ghost use Rattle.file_table.specs.Table.{max_files};
+ghost use Rattle.refusals.specs.Refusals.{told};
+ghost use Rattle.judge.specs.Classify.{files_write, Leaves, refused, classify as classified};
+ghost use Rattle.write.specs.Write.{WritesBy};
 
-use crate::lent::{table_fits, whole_sectors};
-use crate::settle::settled;
+use crate::settle::settle;
+use file_table::{MAX_VF, VF};
 use judge::classify::classify;
-use state::w::{Answer, Judged, W};
+use refusals::Refusal;
+use sector::Sectors;
+use state::w::W;
 
-pub fn write(
-    w: W,
-    ids: &mut [u16],
-    slots: &[u16],
-    starts: &[u16],
-    sizes: &[u32],
+// Of a drive that is read-only every sector is refused.
+fn judged(
+    w: &mut W,
+    files: &mut [VF],
     lba: u32,
-    g: &[u8],
-    d: &[u8],
+    sectors: Sectors,
     busy: bool,
     fat: &[u16],
     area: &mut [u8],
-) -> Answer
-    ensures number { result.no ≡ (written (sector_write lba g.now d.now busy fat.now area.old ids.old slots.now starts.now sizes.now) w).number }
-    ensures state { result.w ≡ (written (sector_write lba g.now d.now busy fat.now area.old ids.old slots.now starts.now sizes.now) w).w }
-    ensures table { ids.new ≡ (written (sector_write lba g.now d.now busy fat.now area.old ids.old slots.now starts.now sizes.now) w).ids }
-    ensures medium { area.new ≡ (written (sector_write lba g.now d.now busy fat.now area.old ids.old slots.now starts.now sizes.now) w).area }
+) -> Result<bool, Refusal>
+    requires { length files.old ≤ max_files }
+    ensures { Leaves (pick (not w.old.rw) (refused (files_write lba sectors.entry.shown.now sectors.entry.written.now busy fat.now area.old files.old) w.old 12)
+        (classified (files_write lba sectors.entry.shown.now sectors.entry.written.now busy fat.now area.old files.old) w.old)) files.old result w.new files.new area.new }
 {
-    if !whole_sectors(g, d) {
-        return Answer { no: 1, w: w };
-    }
-    let first = w.first;
-    if !table_fits(ids, slots, starts, sizes, first) {
-        return Answer { no: 10, w: w };
-    }
     if !w.rw {
-        let kept = settled(
-            lba,
-            Judged {
-                no: 12,
-                changed: false,
-                w: w,
-            },
-        );
-        return Answer { no: 12, w: kept };
+        return Err(Refusal::ReadOnly);
     }
-    let o = classify(w, ids, slots, starts, sizes, lba, g, d, busy, fat, area);
-    let kept = settled(lba, o);
-    Answer { no: o.no, w: kept }
+    classify(w, files, lba, sectors, busy, fat, area)
+}
+
+// 1 and 10 change nothing.
+pub fn write(
+    w: &mut W,
+    files: &mut [VF],
+    lba: u32,
+    shown: &[u8],
+    written: &[u8],
+    busy: bool,
+    fat: &[u16],
+    area: &mut [u8],
+) -> Result<(), Refusal>
+    ensures { WritesBy lba shown.now written.now busy fat.now area.old w.old files.old (told result) w.new files.new area.new }
+{
+    let Some(shown) = shown.as_array::<512>() else {
+        return Err(Refusal::SectorLength);
+    };
+    let Some(written) = written.as_array::<512>() else {
+        return Err(Refusal::SectorLength);
+    };
+    if MAX_VF < files.len() {
+        return Err(Refusal::Table);
+    }
+    let sectors = Sectors { shown, written };
+    let opens = judged(w, files, lba, sectors, busy, fat, area);
+    settle(w, lba, opens);
+    opens?;
+    Ok(())
 }

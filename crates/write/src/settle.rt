@@ -1,9 +1,11 @@
 // What a judged sector leaves in the state: times, counts, the error.
-ghost use Rattle.std.specs.Prelude.{◌≡◌, eqb};
+ghost use Rattle.std.specs.Prelude.{◌≡◌, false, eqb};
 ghost use Rattle.loops.specs.Loops.{pick};
+ghost use Rattle.refusals.specs.Refusals.{number_of, told, value_or};
 ghost use Rattle.write.specs.Write.{error_of, taken_state, refused_state};
 
-use state::w::{Judged, W};
+use refusals::Refusal;
+use state::w::W;
 
 // The Rust's error numbers.
 const E_IO: u8 = 0;
@@ -12,47 +14,50 @@ const E_REFUSED: u8 = 1;
 
 const E_BUSY: u8 = 2;
 
-pub fn error_of(n: u8) -> u8
-    ensures { result ≡ error_of n }
+pub fn error_of(refusal: Refusal) -> u8
+    ensures { result ≡ error_of (number_of refusal) }
 {
-    if n == 2 {
-        return E_IO;
+    match refusal {
+        Refusal::PastTheEnd => E_IO,
+        Refusal::Medium => E_IO,
+        Refusal::Busy => E_BUSY,
+        _ => E_REFUSED,
     }
-    if n == 17 {
-        return E_IO;
-    }
-    if n == 19 {
-        return E_BUSY;
-    }
-    E_REFUSED
 }
 
-// A taken sector: the last time, the taken count, the session. A refused one: the error, its count, and the place unless it was put off. The
-// state is changed in place, since each call with it would copy it.
-pub fn settled(lba: u32, o: Judged) -> W
-    ensures { result ≡ pick (eqb o.no 0) (taken_state o.w o.changed) (refused_state o.w lba o.no) }
+// A taken sector: the last time, the taken count, the session.
+fn taken(w: &mut W, opens: bool)
+    ensures { w.new ≡ taken_state w.old opens }
 {
-    let mut w = o.w;
-    if o.no == 0 {
-        let last = num::max_u64(w.now_ms, 1);
-        let ok = num::wrapping_next_u32(w.n.ok);
-        w.last = last;
-        w.n.ok = ok;
-        if o.changed {
-            w.session = true;
-            return w;
+    w.last = w.now_ms.max(1);
+    w.n.ok = w.n.ok.wrapping_add(1);
+    if opens {
+        w.session = true;
+    }
+}
+
+// A refused one: the error, its count, and the place unless it was put off.
+fn refused(w: &mut W, lba: u32, refusal: Refusal)
+    ensures { w.new ≡ refused_state w.old lba (number_of refusal) }
+{
+    w.err = error_of(refusal);
+    match refusal {
+        Refusal::Busy => {
+            w.n.busy = w.n.busy.wrapping_add(1);
         }
-        return w;
+        _ => {
+            w.n.refused = w.n.refused.wrapping_add(1);
+            w.n.last_refused = lba;
+        }
     }
-    let err = error_of(o.no);
-    w.err = err;
-    if o.no == 19 {
-        let busy = num::wrapping_next_u32(w.n.busy);
-        w.n.busy = busy;
-        return w;
+}
+
+// `opens` tells whether the sector opens the session, or why it is refused.
+pub fn settle(w: &mut W, lba: u32, opens: Result<bool, Refusal>)
+    ensures { w.new ≡ pick (eqb (told opens) 0) (taken_state w.old (value_or false opens)) (refused_state w.old lba (told opens)) }
+{
+    match opens {
+        Ok(opens) => taken(w, opens),
+        Err(refusal) => refused(w, lba, refusal),
     }
-    let count = num::wrapping_next_u32(w.n.refused);
-    w.n.refused = count;
-    w.n.last_refused = lba;
-    w
 }

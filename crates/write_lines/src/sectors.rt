@@ -15,7 +15,7 @@ fn all_bytes(line: &[u8], at: usize, out: &mut [u8]) -> Option<usize> {
 fn base(line: &[u8], at: usize, equals: bool, out: &mut [u8]) -> Option<usize> {
     match line.get(at)? {
         b'z' => {
-            sector::fill(out, 0);
+            out.fill(0);
             Some(at + 1)
         }
         b'=' => equals.then_some(at + 1),

@@ -1,13 +1,13 @@
 // `write PLACE BUSY MOUNTED SHOWN WRITTEN`
 ghost use Rattle.std.specs.Prelude.{◌≡◌, ◌≤◌};
-ghost use Rattle.write.specs.Write.{write as written};
+ghost use Rattle.write.specs.Write.{write as what_is_left};
 ghost use Rattle.file_table.specs.Files.{with_ids};
 ghost use Rattle.session_lines.specs.Steps.{files_of, with_files};
 ghost use Rattle.write_lines.specs.Writes.{sent, write_step, write_area};
 
 use crate::sectors::sector_field;
 use lines::digits::{number, whole};
-use outer_columns::by_columns;
+use refusals::told;
 use session_lines::session::{Said, Session, Step, Table, bad, can_lend};
 use state::w::W;
 
@@ -16,34 +16,34 @@ fn on_table(
     t: &mut Table,
     w: &mut W,
     place: u32,
-    g: &[u8],
-    d: &[u8],
+    shown: &[u8],
+    written: &[u8],
     busy: bool,
     fat: &[u16],
     area: &mut [u8],
 ) -> u8
     requires { t.old.n ≤ 401 }
-    ensures number { result ≡ (written (sent t.old place g.now d.now busy fat.now area.old) w.old).number }
-    ensures state { w.new ≡ (written (sent t.old place g.now d.now busy fat.now area.old) w.old).w }
-    ensures table { t.new ≡ with_files t.old (with_ids (files_of t.old) (written (sent t.old place g.now d.now busy fat.now area.old) w.old).ids) }
-    ensures medium { area.new ≡ (written (sent t.old place g.now d.now busy fat.now area.old) w.old).area }
+    ensures number { result ≡ (what_is_left (sent t.old place shown.now written.now busy fat.now area.old) w.old).number }
+    ensures state { w.new ≡ (what_is_left (sent t.old place shown.now written.now busy fat.now area.old) w.old).w }
+    ensures table { t.new ≡ with_files t.old (with_ids (files_of t.old) (what_is_left (sent t.old place shown.now written.now busy fat.now area.old) w.old).ids) }
+    ensures medium { area.new ≡ (what_is_left (sent t.old place shown.now written.now busy fat.now area.old) w.old).area }
 {
     let n = t.n;
-    by_columns(w, &mut t.files[..n], place, g, d, busy, fat, area)
+    told(write::write(w, &mut t.files[..n], place, shown, written, busy, fat, area))
 }
 
 // ... and as much of the medium as is lent.
 fn judged(
     s: Session,
     place: u32,
-    g: &[u8],
-    d: &[u8],
+    shown: &[u8],
+    written: &[u8],
     busy: bool,
     fat: &[u16],
     area: &mut [u8],
 ) -> Step
-    ensures step { result ≡ write_step s place g.now d.now busy fat.now area.old }
-    ensures medium { area.new ≡ write_area s place g.now d.now busy fat.now area.old }
+    ensures step { result ≡ write_step s place shown.now written.now busy fat.now area.old }
+    ensures medium { area.new ≡ write_area s place shown.now written.now busy fat.now area.old }
 {
     let entries = s.m.lent_entries;
     let bytes = s.m.lent_bytes;
@@ -56,8 +56,8 @@ fn judged(
         &mut t,
         &mut w,
         place,
-        g,
-        d,
+        shown,
+        written,
         busy,
         &fat[..entries],
         &mut area[..bytes],
@@ -73,12 +73,20 @@ pub fn write(s: Session, line: &[u8], at: usize, fat: &[u16], area: &mut [u8]) -
     let place = number(line, at, b' ', 4294967295)?;
     let busy = number(line, place.next, b' ', 1)?;
     let mounted = number(line, busy.next, b' ', 1)?;
-    let mut g = [0u8; 512];
-    let shown = sector_field(line, mounted.next, false, &mut g)?;
-    let mut d = g;
-    let written = sector_field(line, shown.next, true, &mut d)?;
-    if !whole(line, written) {
+    let mut shown = [0u8; 512];
+    let from = sector_field(line, mounted.next, false, &mut shown)?;
+    let mut written = shown;
+    let last = sector_field(line, from.next, true, &mut written)?;
+    if !whole(line, last) {
         return None;
     }
-    Some(judged(s, place.value as u32, &g, &d, busy.value == 1, fat, area))
+    Some(judged(
+        s,
+        place.value as u32,
+        &shown,
+        &written,
+        busy.value == 1,
+        fat,
+        area,
+    ))
 }

@@ -12,20 +12,22 @@ nclus-requires c = tt
 pub overflow_add-end : goal.overflow_add-end
 overflow_add-end c = omega (arith, c.nclus.ensures, clusters_of-le _ c.ranges.size.fits)
 
-pub max_u32-from-requires : goal.max_u32-from-requires
-max_u32-from-requires c = tt
+pub max-from-requires : goal.max-from-requires
+max-from-requires c = tt
 
-pub min_u32-last-requires : goal.min_u32-last-requires
-min_u32-last-requires c = tt
+pub min-last-requires : goal.min-last-requires
+min-last-requires c = tt
 
 pub loop-c-init : goal.loop-c-init
-loop-c-init c = (omega (arith, c.max_u32-from.ensures), omega (arith, c.min_u32-last.ensures), refl)
+loop-c-init c = (omega (arith, c.max-from.ensures), omega (arith, c.min-last.ensures), refl)
 
 pub returns-then-le16-ne0 : goal.returns-then-le16-ne0
-returns-then-le16-ne0 c = all-stop _ _ _ _ c.loop-c.invariant.2 c.loop-c-test.true (ne_eqb _ _ (λ e. c.if-le16-ne0.true (c.le16.ensures ∙ e))) ∙ sym (rw (← c.nclus.ensures, ← c.max_u32-from.ensures, ← c.min_u32-last.ensures) at (all_zero-range c.args.start c.args.size c.args.s c.args.sector.now))
+returns-then-le16-ne0 c = all-stop _ _ _ _ c.loop-c.invariant.2 c.loop-c-test.true (ne_eqb _ _ (λ e. c.if-le16-ne0.true (c.le16.ensures ∙ e)))
+    ∙ sym (rw (← c.nclus.ensures, ← c.max-from.ensures, ← c.min-last.ensures) at (all_zero-range c.args.start c.args.size c.args.s c.args.sector.now))
 
 pub loop-c-preserved : goal.loop-c-preserved
 loop-c-preserved c = (c.loop-c.invariant.0, c.loop-c.invariant.1, all-go _ _ _ _ c.loop-c.invariant.2 c.loop-c-test.true (eq-eqb _ _ (sym c.le16.ensures ∙ c.if-le16-ne0.false)))
 
 pub returns : goal.returns
-returns c = all-end _ _ _ _ c.loop-c.invariant.2 c.loop-c-test.false ∙ sym (rw (← c.nclus.ensures, ← c.max_u32-from.ensures, ← c.min_u32-last.ensures) at (all_zero-range c.args.start c.args.size c.args.s c.args.sector.now))
+returns c = all-end _ _ _ _ c.loop-c.invariant.2 c.loop-c-test.false
+    ∙ sym (rw (← c.nclus.ensures, ← c.max-from.ensures, ← c.min-last.ensures) at (all_zero-range c.args.start c.args.size c.args.s c.args.sector.now))

@@ -1,24 +1,47 @@
-use Rattle.write.specs.WriteLaws.{settled-by, not-whole, not-fit, read-only, judged, lent-by}
-use mathlib.Core.Path.{sym, ◌∙◌}
-use borrow.Author.Tests.{not-true, not-false}
-use Rattle.write.specs.Write.{whole_sectors, table_fits, settled_state}
+use mathlib.Core.Path.{sym, ap, ◌∙◌}
+use Rattle.std.proofs.Common.{ne_eqb}
+use Rattle.loops.specs.Choices.{and-no}
+use Rattle.refusals.specs.Refusals.{told}
+use Rattle.refusals.proofs.Numbers.{told-err}
+use Rattle.write.specs.Write.{whole_sectors}
+use Rattle.write.specs.WriteLaws.{not-whole, not-fit, judged, many-unfit, few-fit, both-whole, part-shown, part-written, turned-down, settled-as}
 use Rattle.write.proofs.write.Goals as goal
 
-pub returns-then-not-whole_sectors : goal.returns-then-not-whole_sectors
+pub returns-in_default : goal.returns-in_default
 unfolding whole_sectors
-returns-then-not-whole_sectors c = let l = not-whole _ _ (sym c.whole_sectors.ensures ∙ c.if-not-whole_sectors.true) in record { number = l.answer; state = l.state; table = l.table; medium = l.medium }
+returns-in_default c = turned-down _ _ _ _ _ _ _ _ _ (not-whole _ _ (part-shown _ _ c.in_default.ensures.cases))
 
-pub returns-then-not-table_fits : goal.returns-then-not-table_fits
-unfolding whole_sectors table_fits
-returns-then-not-table_fits c = let l = not-fit _ _ (sym c.whole_sectors.ensures ∙ c.if-not-whole_sectors.false) (sym c.table_fits.ensures ∙ c.if-not-table_fits.true) in record { number = l.answer; state = l.state; table = l.table; medium = l.medium }
+pub returns-in_default-as_array : goal.returns-in_default-as_array
+unfolding whole_sectors
+returns-in_default-as_array c = turned-down _ _ _ _ _ _ _ _ _ (not-whole _ _ (part-written _ _ c.in_default-as_array.ensures.cases))
 
-pub returns-then-not-w : goal.returns-then-not-w
-unfolding whole_sectors table_fits settled_state
-returns-then-not-w c = let l = read-only _ _ (sym c.whole_sectors.ensures ∙ c.if-not-whole_sectors.false) (sym c.table_fits.ensures ∙ c.if-not-table_fits.false) (not-true _ c.if-not-w.true) in record { number = l.answer; state = c.settled-kept.ensures ∙ l.state; table = l.table; medium = l.medium }
+pub returns-then-files-gt-MAX_VF : goal.returns-then-files-gt-MAX_VF
+unfolding whole_sectors
+returns-then-files-gt-MAX_VF c =
+    let a = c.args in
+    let whole = both-whole _ _ c.in-Some.ensures.cases.long c.in-Some-as_array.ensures.cases.long in
+    turned-down _ _ _ _ _ _ _ _ _ (not-fit _ _ whole (many-unfit _ _ _ _ _ _ _ _ c.if-files-gt-MAX_VF.true))
 
-pub classify-o-requires : goal.classify-o-requires
-classify-o-requires c = lent-by _ _ _ _ _ _ _ (sym c.whole_sectors.ensures ∙ c.if-not-whole_sectors.false) (sym c.table_fits.ensures ∙ c.if-not-table_fits.false)
+pub returns-in_err-opens : goal.returns-in_err-opens
+unfolding whole_sectors
+returns-in_err-opens c =
+    let a = c.args in
+    let shown = c.in-Some.ensures.cases in
+    let written = c.in-Some-as_array.ensures.cases in
+    let whole = both-whole _ _ shown.long written.long in
+    let fit = few-fit a.lba a.shown.now a.written.now a.busy a.fat.now a.area.now a.files.now a.w.now c.if-files-gt-MAX_VF.false in
+    let l = rw (shown.same, written.same) at c.judged-opens.ensures in
+    let s = settled-as _ _ _ _ _ _ _ _ _ _ _ _ _ _ (judged _ _ whole fit) l c.settle.ensures in
+    (told-err _ _ c.from_residual.ensures.1 ∙ sym (ap told c.in_err-opens.was) ∙ s.0, s.1, s.2, s.3)
 
 pub returns : goal.returns
-unfolding whole_sectors table_fits
-returns c = let q = c.classify-o.ensures in let l = judged _ _ (sym c.whole_sectors.ensures ∙ c.if-not-whole_sectors.false) (sym c.table_fits.ensures ∙ c.if-not-table_fits.false) (not-false _ c.if-not-w.false) in record { number = q.number ∙ l.answer; state = c.settled-kept-2.ensures ∙ settled-by _ _ _ _ _ q.number q.changed q.state ∙ l.state; table = q.table ∙ l.table; medium = q.medium ∙ l.medium }
+unfolding whole_sectors
+returns c =
+    let a = c.args in
+    let shown = c.in-Some.ensures.cases in
+    let written = c.in-Some-as_array.ensures.cases in
+    let whole = both-whole _ _ shown.long written.long in
+    let fit = few-fit a.lba a.shown.now a.written.now a.busy a.fat.now a.area.now a.files.now a.w.now c.if-files-gt-MAX_VF.false in
+    let l = rw (shown.same, written.same) at c.judged-opens.ensures in
+    let s = settled-as _ _ _ _ _ _ _ _ _ _ _ _ _ _ (judged _ _ whole fit) l c.settle.ensures in
+    (sym (ap told c.in_ok-opens.was) ∙ s.0, s.1, s.2, s.3)

@@ -8,7 +8,7 @@ returns-in_default g c = c.bad.ensures ∙ from-bad _ _ _ _ c.loop-at.invariant 
 
 pub loop-at-preserved : goal.loop-at-preserved
 loop-at-preserved g c =
-    from-good _ _ _ _ c.loop-at.invariant _ _ c.in-Some.ensures.values c.loop-at-test.true c.entry_write-o.ensures.state
+    from-good _ _ _ _ c.loop-at.invariant _ _ c.in-Some.ensures.values c.loop-at-test.true c.entry_write-row.ensures.state
 
 pub returns : goal.returns
 returns g c = from-ended c.args.input.now _ _ _ c.loop-at.invariant c.loop-at-test.false

@@ -7,7 +7,7 @@ pub loop-i-init : goal.loop-i-init
 loop-i-init c = all-start _ _
 
 pub byte_passes-requires : goal.byte_passes-requires
-byte_passes-requires c = (c.requires.0, c.requires.1, c.loop-i-test.true)
+byte_passes-requires c = c.loop-i-test.true
 
 pub returns-then-not-byte_passes : goal.returns-then-not-byte_passes
 unfolding boot_passes

@@ -1,2 +1,0 @@
--- Lemmas of the loops over rows.
-pub mod Files

@@ -1,3 +1,0 @@
--- The lent table of files.
-pub mod Files
-pub mod FilesLaws

@@ -1,5 +1,0 @@
--- The last file of a table.
-pub mod LastFile
-pub mod LastLaws
-pub mod FileBy
-pub mod FileByLaws

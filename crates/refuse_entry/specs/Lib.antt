@@ -1,4 +1,0 @@
--- FAT sectors that their first changed entry refuses.
-pub mod RefuseEntry
-pub mod EntryLaws
-pub mod RefuseLaws

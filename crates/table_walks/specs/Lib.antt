@@ -1,3 +1,0 @@
--- What the walks of the lent table give.
-pub mod Walks
-pub mod WalkLaws

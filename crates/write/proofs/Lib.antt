@@ -1,2 +1,0 @@
--- The laws that other crates and the proofs cite.
-pub mod EarlyLaws
