@@ -16,8 +16,8 @@ use sector::Sectors;
 use state::w::W;
 use vdisk::ids::FREED;
 
-// So many bytes of a sector differ where few entries do.
-const FEW_BYTES: u16 = 8;
+// So many bytes of a sector differ where few entries do; the count goes round past 255, which tells nothing wrong, but takes longer.
+const FEW_BYTES: u8 = 8;
 
 fn freed_id(mark: u8, id: u16) -> u16
     ensures { result ≡ pick (eqb mark 1) (set_bit id 13) id }
@@ -45,9 +45,9 @@ fn table_for<'a>(files: &'a [VF], first: u32, sectors: Sectors) -> Files<'a>
 {
     let shown = sectors.shown;
     let written = sectors.written;
-    let mut differing = 0u16;
+    let mut differing = 0u8;
     for (x, y) in shown.iter().zip(written) {
-        differing = differing.wrapping_add((x != y) as u16);
+        differing = differing.wrapping_add((x != y) as u8);
     }
     if differing <= FEW_BYTES {
         return Files::by_rows(files, first);
