@@ -36,12 +36,6 @@ fn show(out: &mut Output<impl Write>, name: &[u8], w: W, c: u32) {
     out.answer(state::staged::free_slots(&w.st) as u64);
 }
 
-fn show_clusters(out: &mut Output<impl Write>, name: &[u8], w: W, clusters: &[u32]) {
-    for c in clusters {
-        show(out, name, w, *c);
-    }
-}
-
 fn show_rec(out: &mut Output<impl Write>, name: &[u8], rec: [Rec; 10], idx: usize) {
     let r = records::root_rec(&rec, idx);
     out.text(name);
@@ -55,12 +49,6 @@ fn show_rec(out: &mut Output<impl Write>, name: &[u8], rec: [Rec; 10], idx: usiz
     out.number(e[0] as u64);
     out.number(e[31] as u64);
     out.line_end();
-}
-
-fn show_recs(out: &mut Output<impl Write>, name: &[u8], rec: [Rec; 10], slots: &[usize]) {
-    for idx in slots {
-        show_rec(out, name, rec, *idx);
-    }
 }
 
 // The first free places, and how many records' are free.
@@ -78,8 +66,12 @@ fn show_free(out: &mut Output<impl Write>, name: &[u8], w: W) {
 
 fn show_state(out: &mut Output<impl Write>, name: &[u8], w: W) {
     let rec = w.rec;
-    show_clusters(out, name, w, &[9, 0, 8, 65545, 4294967295]);
-    show_recs(out, name, rec, &[7, 0, 8, 65543]);
+    for c in [9, 0, 8, 65545, 4294967295] {
+        show(out, name, w, c);
+    }
+    for idx in [7, 0, 8, 65543] {
+        show_rec(out, name, rec, idx);
+    }
     show_free(out, name, w);
 }
 

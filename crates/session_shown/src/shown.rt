@@ -3,6 +3,7 @@ ghost use Rattle.std.specs.Prelude.{◌<◌};
 
 use printed::Output;
 use records::Rec;
+use records::places::Place;
 use session_lines::session::{Said, Table};
 use state::w::{Done, Pair, St, W};
 use std::io::Write;
@@ -66,59 +67,49 @@ fn kept(out: &mut Output<impl Write>, w: W) {
     out.named(b" first ", w.first as u64);
 }
 
-fn pair(out: &mut Output<impl Write>, i: usize, p: Pair) {
-    if p.c == 0 {
-        return;
-    }
-    out.number(i as u64);
-    out.named(b":", p.c as u64);
-    out.named(b":", p.v as u64);
+// What is shown of a place in use, after its number.
+trait Shown: Place {
+    fn show(&self, out: &mut Output<impl Write>);
 }
 
-fn pairs(out: &mut Output<impl Write>, w: W) {
-    out.text(b"\npairs");
-    for (i, p) in w.pair.iter().enumerate() {
-        pair(out, i, *p);
+impl Shown for Pair {
+    fn show(&self, out: &mut Output<impl Write>) {
+        out.named(b":", self.c as u64);
+        out.named(b":", self.v as u64);
     }
 }
 
-fn record(out: &mut Output<impl Write>, i: usize, r: Rec) {
-    if r.slot == 0 {
-        return;
-    }
-    out.number(i as u64);
-    out.named(b":", r.slot as u64);
-    out.text(b":");
-    for b in &r.e {
-        out.hex(*b);
+impl Shown for Rec {
+    fn show(&self, out: &mut Output<impl Write>) {
+        out.named(b":", self.slot as u64);
+        out.text(b":");
+        for b in &self.e {
+            out.hex(*b);
+        }
     }
 }
 
-fn records(out: &mut Output<impl Write>, w: W) {
-    out.text(b"\nrecords");
-    for (i, r) in w.rec.iter().enumerate() {
-        record(out, i, *r);
+impl Shown for St {
+    fn show(&self, out: &mut Output<impl Write>) {
+        out.named(b":", self.c as u64);
+        out.named(b":", self.sealed as u64);
+        out.named(b":", self.ro as u64);
+        out.named(b":", self.map);
+        for b in &self.blk {
+            out.named(b":", *b as u64);
+        }
     }
 }
 
-fn slot(out: &mut Output<impl Write>, i: usize, x: St) {
-    if x.c == 0 {
-        return;
-    }
-    out.number(i as u64);
-    out.named(b":", x.c as u64);
-    out.named(b":", x.sealed as u64);
-    out.named(b":", x.ro as u64);
-    out.named(b":", x.map);
-    for b in &x.blk {
-        out.named(b":", *b as u64);
-    }
-}
-
-fn staged(out: &mut Output<impl Write>, w: W) {
-    out.text(b"\nstaged");
-    for (i, x) in w.st.iter().enumerate() {
-        slot(out, i, *x);
+// The places in use.
+fn used<P: Shown>(out: &mut Output<impl Write>, name: &[u8], places: &[P]) {
+    out.text(b"\n");
+    out.text(name);
+    for (i, p) in places.iter().enumerate() {
+        if p.key() != 0 {
+            out.number(i as u64);
+            p.show(out);
+        }
     }
 }
 
@@ -145,9 +136,9 @@ pub fn state(out: &mut Output<impl Write>, w: W, t: Table, area: &[u8]) {
     times(out, w);
     counts(out, w);
     kept(out, w);
-    pairs(out, w);
-    records(out, w);
-    staged(out, w);
+    used(out, b"pairs", &w.pair);
+    used(out, b"records", &w.rec);
+    used(out, b"staged", &w.st);
     ids(out, t);
     out.named(b"\ndata ", sum(area));
     out.line_end();

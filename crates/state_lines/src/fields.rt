@@ -6,7 +6,7 @@ use lines::words::word_end;
 use session_lines::session::{Session, Step, with_state};
 
 // The number with which the line ends.
-fn value(line: &[u8], at: usize, most: u64) -> Option<u64>
+pub(crate) fn value(line: &[u8], at: usize, most: u64) -> Option<u64>
     ensures { IfSome result (λ v. v ≤ most) }
 {
     let v = number(line, at, b' ', most)?;

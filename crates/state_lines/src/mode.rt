@@ -3,7 +3,7 @@ ghost use Rattle.std.specs.Prelude.{◌≡◌, not};
 ghost use Rattle.session_lines.specs.Steps.{silent_step, session_of};
 ghost use Rattle.sessions.specs.Sessions.{set_read_only, mode_reset};
 
-use lines::digits::{number, whole};
+use crate::fields::value;
 use session_lines::session::{Session, Step, with_state};
 use sessions::mode;
 
@@ -18,11 +18,7 @@ fn ask(s: Session, on: bool) -> Step
 
 // `set_read_only 0|1`
 pub fn set_read_only(s: Session, line: &[u8], at: usize) -> Option<Step> {
-    let on = number(line, at, b' ', 1)?;
-    if !whole(line, on) {
-        return None;
-    }
-    Some(ask(s, on.value == 1))
+    Some(ask(s, value(line, at, 1)? == 1))
 }
 
 // `bus_reset_w`: vwrite's bus reset.
@@ -47,9 +43,5 @@ fn switch(s: Session, writable: bool) -> Step
 
 // `rw 0|1`
 pub fn rw(s: Session, line: &[u8], at: usize) -> Option<Step> {
-    let on = number(line, at, b' ', 1)?;
-    if !whole(line, on) {
-        return None;
-    }
-    Some(switch(s, on.value == 1))
+    Some(switch(s, value(line, at, 1)? == 1))
 }
