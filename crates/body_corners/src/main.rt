@@ -19,16 +19,6 @@ use std::io::{Read, Write};
 // No more of the input is read.
 const INPUT_MOST: u64 = 65536;
 
-fn slot(c: u16, map: u64, blk: [u16; 8]) -> St {
-    St {
-        c,
-        sealed: false,
-        ro: 0,
-        map,
-        blk,
-    }
-}
-
 fn sectors_below(n: u32) -> u64 {
     if 64 <= n {
         return 0xFFFFFFFFFFFFFFFF;
@@ -38,9 +28,13 @@ fn sectors_below(n: u32) -> u64 {
 
 // Clusters 9 and 10 in slots 27 and 3.
 fn slots(map: u64, block: u16) -> [St; 28] {
-    let mut st = [slot(0, 0, [0; 8]); 28];
-    st[27] = slot(9, 0xFFFFFFFFFFFFFFFF, [10, 11, 12, 13, 14, 15, 16, block]);
-    st[3] = slot(10, map, [2, 3, 4, 5, 6, 7, 8, 9]);
+    let mut st = [St::unused(); 28];
+    st[27].c = 9;
+    st[27].map = 0xFFFFFFFFFFFFFFFF;
+    st[27].blk = [10, 11, 12, 13, 14, 15, 16, block];
+    st[3].c = 10;
+    st[3].map = map;
+    st[3].blk = [2, 3, 4, 5, 6, 7, 8, 9];
     st
 }
 
