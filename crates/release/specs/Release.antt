@@ -17,8 +17,7 @@ use Rattle.release.specs.Undecided.{is_undecided, staged_at}
 use Rattle.refusals.specs.Refusals.{number_of}
 use Rattle.refusals.specs.declared.Refusal.{Refusal}
 use Rattle.release.specs.declared.Ended as code
-use Rattle.release.specs.declared.Ending.{Ending}
-use Rattle.release.specs.declared.Ending.TheVariants.{NotDue, Ran, PutOff}
+use Rattle.release.specs.declared.Ended.TheVariants.{NotDue, Ran, PutOff}
 
 -- What a release is lent: the medium, and the table's columns that it goes by.
 pub record Lending : Type 0 where
@@ -101,11 +100,16 @@ release_all_call x w reset = pick (fits x) (release_all x w reset) (turned_down 
 unfoldable pub release_call : Lending → W → Ended
 release_call x w = pick (fits x) (release x w) (turned_down x w 10)
 
--- the number of an ending
-abbrev pub number_of_ending : Ending → ℕ
-number_of_ending NotDue = 0
-number_of_ending Ran = 1
-number_of_ending PutOff = 2
+-- the number of how a call ended the session, and whether there was anything
+abbrev pub number_of_ended : code.Ended → ℕ
+number_of_ended NotDue = 0
+number_of_ended (Ran had) = 1
+number_of_ended PutOff = 2
+
+abbrev pub had_of_ended : code.Ended → Bool
+had_of_ended NotDue = false
+had_of_ended (Ran had) = had
+had_of_ended PutOff = false
 
 -- What a call that may end the session answers: the refusal number; how it ended, and whether there was anything, by their definition's parts.
 pub record EndAnswer : Type 0 where
@@ -117,7 +121,7 @@ abbrev pub end_answer : Ended → EndAnswer
 end_answer e = record { no = e.number; ended = e.ended; had = e.had }
 
 abbrev pub answered : Result code.Ended Refusal → EndAnswer
-answered (Ok e) = record { no = 0; ended = number_of_ending e.ending; had = e.had }
+answered (Ok e) = record { no = 0; ended = number_of_ended e; had = had_of_ended e }
 answered (Err r) = record { no = number_of r; ended = 0; had = false }
 
 -- What each call leaves, in its contract and in demand 3's lists alike. A call that may end the session, by its definition: the answer, the state, the

@@ -8,7 +8,7 @@ pub mod released;
 pub mod undecided;
 
 ghost use Rattle.std.specs.Prelude.{◌≡◌};
-ghost use Rattle.release.specs.Release.{release_all_call, release_call, number_of_ending, EndsBy, answered};
+ghost use Rattle.release.specs.Release.{release_all_call, release_call, number_of_ended, had_of_ended, EndsBy, answered};
 
 use crate::ids::release_ids;
 use crate::released::{had_any, hold_back, settle_state};
@@ -17,31 +17,34 @@ use file_table::{MAX_VF, VF};
 use refusals::Refusal;
 use state::w::W;
 
-// How a call that may end the session left it: no release was due, one ran to its end, or it was put off.
+// How a call that may end the session left it: no release was due, one ran to its end, with anything to release or nothing, or it was put off.
 #[derive(Clone, Copy, Debug, PartialEq, Eq)]
-pub enum Ending {
+pub enum Ended {
     NotDue,
-    Ran,
+    Ran(bool),
     PutOff,
 }
 
-impl Ending {
+impl Ended {
     pub fn number(self) -> u8
-        ensures { result ≡ number_of_ending self }
+        ensures { result ≡ number_of_ended self }
     {
         match self {
-            Ending::NotDue => 0,
-            Ending::Ran => 1,
-            Ending::PutOff => 2,
+            Ended::NotDue => 0,
+            Ended::Ran(_) => 1,
+            Ended::PutOff => 2,
         }
     }
-}
 
-// ... and whether there was anything to release.
-#[derive(Clone, Copy, Debug, PartialEq, Eq)]
-pub struct Ended {
-    pub ending: Ending,
-    pub had: bool,
+    // Was there anything to release.
+    pub fn had(self) -> bool
+        ensures { result ≡ had_of_ended self }
+    {
+        match self {
+            Ended::Ran(had) => had,
+            _ => false,
+        }
+    }
 }
 
 pub fn release_all(
@@ -59,10 +62,7 @@ pub fn release_all(
     release_ids(files, fat, area, &w.st);
     let had = had_any(w);
     settle_state(w, reset);
-    Ok(Ended {
-        ending: Ending::Ran,
-        had,
-    })
+    Ok(Ended::Ran(had))
 }
 
 // The session's end, put off while a DM40*.BIN is undecided and anything is staged.
@@ -74,10 +74,7 @@ pub fn release(w: &mut W, files: &mut [VF], fat: &[u16], area: &[u8]) -> Result<
     }
     if is_undecided(w) {
         hold_back(w);
-        return Ok(Ended {
-            ending: Ending::PutOff,
-            had: false,
-        });
+        return Ok(Ended::PutOff);
     }
     release_all(w, files, fat, area, false)
 }

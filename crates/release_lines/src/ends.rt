@@ -61,7 +61,7 @@ fn said(r: Result<Ended, Refusal>) -> Said
     ensures { result ≡ said_of (answered r) }
 {
     match r {
-        Ok(e) => Said::Ended(0, e.ending.number(), e.had),
+        Ok(e) => Said::Ended(0, e.number(), e.had()),
         Err(e) => Said::Ended(e.number(), 0, false),
     }
 }

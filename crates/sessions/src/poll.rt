@@ -6,14 +6,8 @@ ghost use Rattle.sessions.specs.Poll.{ticked, end_due, is_quiet, poll_call};
 use file_table::{MAX_VF, VF};
 use refusals::Refusal;
 use release::undecided::is_undecided;
-use release::{Ended, Ending, release, release_all};
+use release::{Ended, release, release_all};
 use state::w::W;
-
-// No release was due.
-const NOTHING: Ended = Ended {
-    ending: Ending::NotDue,
-    had: false,
-};
 
 // An end held back waits so long, and a quiet session lasts so long.
 const END_WAIT_MS: u64 = 1500;
@@ -76,12 +70,12 @@ pub fn poll(
     if end_due(w) {
         w.end_at = 0;
         if mounted {
-            return Ok(NOTHING);
+            return Ok(Ended::NotDue);
         }
         return release_all(w, files, fat, area, false);
     }
     if is_quiet(w, mounted) {
         return release(w, files, fat, area);
     }
-    Ok(NOTHING)
+    Ok(Ended::NotDue)
 }

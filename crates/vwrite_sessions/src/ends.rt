@@ -24,8 +24,8 @@ fn tell(r: Result<Ended, Refusal>, end: &mut End) -> u8
 {
     match r {
         Ok(e) => {
-            end.ended = e.ending.number();
-            end.had = e.had;
+            end.ended = e.number();
+            end.had = e.had();
             0
         }
         Err(e) => {
