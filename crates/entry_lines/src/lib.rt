@@ -2,10 +2,10 @@
 
 #![tactic(auto)]
 
-ghost use Rattle.std.specs.Prelude.{◌≡◌, ◌<◌, ◌≤◌, length, IfSome};
+ghost use Rattle.std.specs.Prelude.{◌≡◌, ◌<◌, ◌≤◌, length, IfSome, option_map};
 ghost use Rattle.entry_lines.specs.EntryLines.{line_end, names_line, entry_line};
 
-use lines::digits::number;
+use lines::digits::{field_end, number};
 use lines::words::is_word;
 
 // Bytes of an input, the number of an entry, and its values, at most.
@@ -15,13 +15,12 @@ const MAX_ENTRY: u64 = 65023;
 
 const MAX_VALUE: u64 = 65535;
 
-// A line's three values, and where the next line begins.
+// A line's three values.
 #[derive(Clone, Copy)]
 pub struct Line {
     pub entry: u16,
     pub shown: u16,
     pub written: u16,
-    pub next: usize,
 }
 
 // Where the first line ends.
@@ -37,9 +36,9 @@ fn line_end(input: &[u8]) -> usize
     input.len()
 }
 
-// Where the lines after the line of names begin, if the input is read at all.
-pub fn names_line(input: &[u8]) -> Option<usize>
-    ensures { result ≡ names_line input.now }
+// The lines after the line of names, if the input is read at all.
+pub fn names_line(input: &[u8]) -> Option<&[u8]>
+    ensures { option_map (λ lines. lines.now) result ≡ names_line input.now }
 {
     if MAX_INPUT < input.len() {
         return None;
@@ -48,21 +47,21 @@ pub fn names_line(input: &[u8]) -> Option<usize>
     if !is_word(&input[..end], b"entry shown written") {
         return None;
     }
-    Some(end + 1)
+    field_end(&input[end..], b'\n')
 }
 
-// The line at `at`.
-pub fn next_line(input: &[u8], at: usize) -> Option<Line>
-    ensures values { result ≡ entry_line input.now at }
-    ensures onward { IfSome result (λ line. at < line.next) }
+// The first line, and the lines after it.
+pub fn next_line(input: &[u8]) -> Option<(Line, &[u8])>
+    ensures values { option_map (λ r. (r.0, r.1.now)) result ≡ entry_line input.now }
+    ensures onward { IfSome result (λ r. length r.1.now < length input.now) }
 {
-    let entry = number(input, at, b' ', MAX_ENTRY)?;
-    let shown = number(input, entry.next, b' ', MAX_VALUE)?;
-    let written = number(input, shown.next, b'\n', MAX_VALUE)?;
-    Some(Line {
-        entry: entry.value as u16,
-        shown: shown.value as u16,
-        written: written.value as u16,
-        next: written.next,
-    })
+    let (entry, rest) = number(input, b' ', MAX_ENTRY)?;
+    let (shown, rest) = number(rest, b' ', MAX_VALUE)?;
+    let (written, rest) = number(rest, b'\n', MAX_VALUE)?;
+    let line = Line {
+        entry: entry as u16,
+        shown: shown as u16,
+        written: written as u16,
+    };
+    Some((line, rest))
 }

@@ -1,5 +1,5 @@
 -- The listing of an input (document 01, "The entry listing"): each line is judged on what the one before left.
-use Rattle.std.specs.Prelude.{ℕ, zero, suc, true, false, List, Option, Some, None, leb, length}
+use Rattle.std.specs.Prelude.{ℕ, zero, suc, true, false, List, Option, Some, None, eqb, length}
 use Rattle.loops.specs.Loops.{pick}
 use Rattle.state.specs.declared.w.W.{W}
 use Rattle.write.specs.Write.{write}
@@ -24,13 +24,13 @@ good f w (Some a) = f a
 unfoldable pub after_line : Line → W → W
 after_line l w = (write (entry_write l.entry l.shown l.written) w).w
 
--- the lines from `at` on, n at most
-unfoldable pub listed_from : ℕ → List ℕ → ℕ → W → Listing
-listed_from zero input at w = end_at w
-listed_from (suc n) input at w =
-    pick (leb (length input) at) (end_at w)
-    (good (λ l. listed_from n input l.next (after_line l w)) w (entry_line input at))
+-- the lines, n at most
+unfoldable pub listed_from : ℕ → List ℕ → W → Listing
+listed_from zero input w = end_at w
+listed_from (suc n) input w =
+    pick (eqb (length input) 0) (end_at w)
+    (good (λ l. listed_from n l.1 (after_line l.0 w)) w (entry_line input))
 
 -- a line has a byte or more, so there are no more lines than bytes
 unfoldable pub listed : List ℕ → Listing
-listed input = good (λ at. listed_from (length input) input at drive) drive (names_line input)
+listed input = good (λ rest. listed_from (length rest) rest drive) drive (names_line input)

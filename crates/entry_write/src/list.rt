@@ -29,20 +29,20 @@ fn bad(out: &mut Output<impl Write>, w: W) -> Listing
     Listing { ok: false, w }
 }
 
-// The lines from `from` on; a bad one ends the listing.
-fn lines(out: &mut Output<impl Write>, input: &[u8], from: usize, first: W) -> Listing
-    ensures { result ≡ listed_from (length input.now) input.now from first }
+// The lines; a bad one ends the listing.
+fn lines(out: &mut Output<impl Write>, input: &[u8], first: W) -> Listing
+    ensures { result ≡ listed_from (length input.now) input.now first }
 {
     let mut w = first;
-    let mut at = from;
-    // A line takes a byte or more, so no range goes over the places.
-    while at < input.len() {
-        let Some(line) = next_line(input, at) else {
+    let mut left = input;
+    // What is read decides how far a turn goes, so no range goes over the lines.
+    while !left.is_empty() {
+        let Some((line, rest)) = next_line(left) else {
             return bad(out, w);
         };
         let row = entry_write(&mut w, line.entry, line.shown, line.written);
         show(out, row);
-        at = line.next;
+        left = rest;
     }
     Listing { ok: true, w }
 }
@@ -51,9 +51,9 @@ pub fn list(out: &mut Output<impl Write>, input: &[u8]) -> Listing
     ensures { result ≡ listed input.now }
 {
     let w = drive();
-    let Some(at) = names_line(input) else {
+    let Some(rest) = names_line(input) else {
         return bad(out, w);
     };
     out.text(b"entry answer pairs fat1\n");
-    lines(out, input, at, w)
+    lines(out, rest, w)
 }

@@ -2,4 +2,3 @@
 pub mod Digits
 pub mod Words
 pub mod DigitLaws
-pub mod ReadLaws

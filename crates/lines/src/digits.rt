@@ -1,14 +1,6 @@
-// The digits of a line, decimal and hex.
-ghost use Rattle.std.specs.Prelude.{◌≡◌, None, IfSome, ◌*◌, ◌+◌, ◌<◌, ◌≤◌, eqb, leb, ltb, length};
-ghost use Rattle.loops.specs.Loops.{pick};
-ghost use Rattle.lines.specs.Digits.{read_to, is_digit, number_at, field_end, number_field, hex_digit, byte_at, Onward};
-
-// What was read of a line, and where the line goes on.
-#[derive(Clone, Copy)]
-pub struct Read {
-    pub value: u64,
-    pub next: usize,
-}
+// The digits that a line begins with, decimal and hex, and the rest of the line.
+ghost use Rattle.std.specs.Prelude.{◌≡◌, ◌*◌, ◌+◌, ◌<◌, ◌≤◌, IfSome, option_map, leb, length};
+ghost use Rattle.lines.specs.Digits.{is_digit, read, number_at, field_end, number_field, hex_digit, hex_byte};
 
 fn is_digit(c: u8) -> bool
     ensures { result ≡ is_digit c }
@@ -24,28 +16,26 @@ fn has_room(v: u64, d: u64, most: u64) -> bool
     v <= most / 10 && d <= most - v * 10
 }
 
-// What was read from `at` to `end`, if anything was.
-fn read_to(at: usize, end: usize, v: u64) -> Option<Read>
-    ensures { result ≡ pick (ltb at end) (read_to v end) None }
+// The number `v` of `n` digits, if there are any.
+fn read(line: &[u8], n: usize, v: u64) -> Option<(u64, &[u8])>
+    requires { n ≤ length line.now }
+    ensures { option_map (λ r. (r.0, r.1.now)) result ≡ read line.now n v }
 {
-    if end <= at {
+    if n == 0 {
         return None;
     }
-    Some(Read {
-        value: v,
-        next: end,
-    })
+    Some((v, &line[n..]))
 }
 
-// The number at `at`: one digit or more, and at most `most`.
-fn digits(line: &[u8], at: usize, most: u64) -> Option<Read>
-    ensures { result ≡ number_at line.now at most }
+// The number that the line begins with: one digit or more, and at most `most`.
+fn digits(line: &[u8], most: u64) -> Option<(u64, &[u8])>
+    ensures { option_map (λ r. (r.0, r.1.now)) result ≡ number_at line.now most }
 {
     let mut v = 0;
-    for i in at..line.len() {
+    for i in 0..line.len() {
         let c = line[i];
         if !is_digit(c) {
-            return read_to(at, i, v);
+            return read(line, i, v);
         }
         let d = u64::from(c - b'0');
         if !has_room(v, d, most) {
@@ -53,81 +43,65 @@ fn digits(line: &[u8], at: usize, most: u64) -> Option<Read>
         }
         v = v * 10 + d;
     }
-    read_to(at, line.len(), v)
+    read(line, line.len(), v)
 }
 
 // A field ends with the line or with its separator, which is passed.
-pub fn field_end(line: &[u8], r: Read, sep: u8) -> Option<Read>
-    ensures { result ≡ field_end line.now r sep }
+pub fn field_end(rest: &[u8], sep: u8) -> Option<&[u8]>
+    ensures { option_map (λ r. r.now) result ≡ field_end rest.now sep }
 {
-    if line.len() <= r.next {
-        return Some(r);
+    if rest.is_empty() {
+        return Some(rest);
     }
-    if line[r.next] != sep {
+    if rest[0] != sep {
         return None;
     }
-    Some(Read {
-        value: r.value,
-        next: r.next + 1,
-    })
+    Some(&rest[1..])
 }
 
 // A field that is a number.
-pub fn number(line: &[u8], at: usize, sep: u8, most: u64) -> Option<Read>
-    ensures field { result ≡ number_field line.now at sep most }
-    ensures onward { IfSome result (Onward line.now at most) }
+pub fn number(line: &[u8], sep: u8, most: u64) -> Option<(u64, &[u8])>
+    ensures field { option_map (λ r. (r.0, r.1.now)) result ≡ number_field line.now sep most }
+    ensures onward { IfSome result (λ r. (r.0 ≤ most) × (length r.1.now < length line.now)) }
 {
-    let n = digits(line, at, most)?;
-    field_end(line, n, sep)
+    let (v, rest) = digits(line, most)?;
+    Some((v, field_end(rest, sep)?))
 }
 
-// Was the whole line read.
-pub fn whole(line: &[u8], r: Read) -> bool
-    ensures { result ≡ eqb r.next (length line.now) }
-{
-    r.next == line.len()
-}
-
-// A hex digit's value, 16 for another character.
-fn hex_digit(c: u8) -> u8
-    ensures { result ≡ hex_digit c }
+// A hex digit's value.
+fn hex_digit(c: u8) -> Option<u8>
+    ensures value { result ≡ hex_digit c }
+    ensures most { IfSome result (λ v. v < 16) }
 {
     match c {
-        b'0'..=b'9' => c - b'0',
-        b'A'..=b'F' => c - 55,
-        b'a'..=b'f' => c - 87,
-        _ => 16,
+        b'0'..=b'9' => Some(c - b'0'),
+        b'A'..=b'F' => Some(c - 55),
+        b'a'..=b'f' => Some(c - 87),
+        _ => None,
     }
 }
 
 // The byte that two hex digits give.
-fn hex_byte(line: &[u8], at: usize) -> Option<u8>
-    ensures byte { result ≡ byte_at line.now at }
-    ensures within { IfSome result (λ _. at + 2 ≤ length line.now) }
+fn hex_byte(high: u8, low: u8) -> Option<u8>
+    ensures { result ≡ hex_byte high low }
 {
-    let high = hex_digit(*line.get(at)?);
-    let low = hex_digit(*line.get(at + 1)?);
-    if 16 <= high || 16 <= low {
-        return None;
-    }
-    Some(high * 16 + low)
+    Some(hex_digit(high)? * 16 + hex_digit(low)?)
 }
 
-// The bytes that the hex digits give, as many as there are, put into `out` from `to` on; the value is how many.
-pub fn hex_bytes(line: &[u8], at: usize, out: &mut [u8], to: usize) -> Option<Read>
-    ensures { IfSome result (λ r. (at < r.next) × (r.next ≤ length line.now)) }
+// The bytes that the hex digits give with which the line begins, put into `out`: how many, and the rest of the line.
+pub fn hex_bytes<'a>(line: &'a [u8], out: &mut [u8]) -> Option<(usize, &'a [u8])>
+    ensures { IfSome result (λ r. length r.1.now < length line.now) }
 {
-    let mut i = at;
-    let mut k = to;
-    // A byte takes two digits, so no range goes over the places.
-    while i < line.len() {
-        if hex_digit(line[i]) == 16 {
-            return read_to(at, i, (k - to) as u64);
-        }
-        let b = hex_byte(line, i)?;
-        *out.get_mut(k)? = b;
-        k += 1;
-        i += 2;
+    let n = line
+        .iter()
+        .position(|c| !c.is_ascii_hexdigit())
+        .unwrap_or(line.len());
+    let bytes = n / 2;
+    if n == 0 || n % 2 == 1 || out.len() < bytes {
+        return None;
     }
-    read_to(at, i, (k - to) as u64)
+    for i in 0..bytes {
+        out[i] = hex_byte(line[2 * i], line[2 * i + 1])?;
+    }
+    Some((bytes, &line[n..]))
 }

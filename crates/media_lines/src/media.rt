@@ -1,5 +1,5 @@
 // A bad line answers nothing, and may leave some of its values set.
-use lines::digits::{hex_bytes, number, whole};
+use lines::digits::{hex_bytes, number};
 use session_lines::session::{Medium, Session, Step, silent, with_medium};
 
 fn fill_entries(fat: &mut [u16], from: usize, to: usize, v: u16) {
@@ -9,23 +9,17 @@ fn fill_entries(fat: &mut [u16], from: usize, to: usize, v: u16) {
 }
 
 // `medium N LEN FILL`
-pub fn medium(
-    s: Session,
-    line: &[u8],
-    at: usize,
-    fat: &mut [u16],
-    area: &mut [u8],
-) -> Option<Step> {
-    let n = number(line, at, b' ', fat.len() as u64)?;
-    let len = number(line, n.next, b' ', area.len() as u64)?;
-    let v = number(line, len.next, b' ', 255)?;
-    if !whole(line, v) {
+pub fn medium(s: Session, line: &[u8], fat: &mut [u16], area: &mut [u8]) -> Option<Step> {
+    let (n, rest) = number(line, b' ', fat.len() as u64)?;
+    let (len, rest) = number(rest, b' ', area.len() as u64)?;
+    let (v, rest) = number(rest, b' ', 255)?;
+    if !rest.is_empty() {
         return None;
     }
-    let entries = n.value as usize;
-    let bytes = len.value as usize;
+    let entries = n as usize;
+    let bytes = len as usize;
     fill_entries(fat, 0, entries, 0);
-    area[..bytes].fill(v.value as u8);
+    area[..bytes].fill(v as u8);
     Some(with_medium(
         s,
         Medium {
@@ -38,70 +32,65 @@ pub fn medium(
 }
 
 // `mfill V FROM TO`
-pub fn mfill(s: Session, line: &[u8], at: usize, fat: &mut [u16]) -> Option<Step> {
-    let v = number(line, at, b' ', 65535)?;
-    let first = number(line, v.next, b' ', s.m.entries as u64)?;
-    let end = number(line, first.next, b' ', s.m.entries as u64)?;
-    if !whole(line, end) || end.value < first.value {
+pub fn mfill(s: Session, line: &[u8], fat: &mut [u16]) -> Option<Step> {
+    let (v, rest) = number(line, b' ', 65535)?;
+    let (first, rest) = number(rest, b' ', s.m.entries as u64)?;
+    let (end, rest) = number(rest, b' ', s.m.entries as u64)?;
+    if !rest.is_empty() || end < first {
         return None;
     }
-    fill_entries(
-        fat,
-        first.value as usize,
-        end.value as usize,
-        v.value as u16,
-    );
+    fill_entries(fat, first as usize, end as usize, v as u16);
     Some(silent(s))
 }
 
 // The values of `mfat`, from entry `first` on.
-fn entries(line: &[u8], from: usize, fat: &mut [u16], first: usize, end: usize) -> Option<()> {
-    let mut at = from;
+fn entries(line: &[u8], fat: &mut [u16], first: usize, end: usize) -> Option<()> {
+    let mut left = line;
     let mut i = first;
-    // A value takes a byte or more, so no range goes over the places.
-    while at < line.len() {
-        let v = number(line, at, b' ', 65535)?;
+    // What is read decides how far a turn goes, so no range goes over the values.
+    while !left.is_empty() {
+        let (v, rest) = number(left, b' ', 65535)?;
         if end <= i {
             return None;
         }
-        *fat.get_mut(i)? = v.value as u16;
-        at = v.next;
+        *fat.get_mut(i)? = v as u16;
+        left = rest;
         i += 1;
     }
     Some(())
 }
 
 // `mfat I V ..`
-pub fn mfat(s: Session, line: &[u8], at: usize, fat: &mut [u16]) -> Option<Step> {
+pub fn mfat(s: Session, line: &[u8], fat: &mut [u16]) -> Option<Step> {
     let end = s.m.entries;
-    let i = number(line, at, b' ', end as u64)?;
-    entries(line, i.next, fat, i.value as usize, end)?;
+    let (i, rest) = number(line, b' ', end as u64)?;
+    entries(rest, fat, i as usize, end)?;
     Some(silent(s))
 }
 
 // `mdata OFFSET HEX`
-pub fn mdata(s: Session, line: &[u8], at: usize, area: &mut [u8]) -> Option<Step> {
+pub fn mdata(s: Session, line: &[u8], area: &mut [u8]) -> Option<Step> {
     let bytes = s.m.bytes;
-    let off = number(line, at, b' ', bytes as u64)?;
-    let b = hex_bytes(line, off.next, area.get_mut(..bytes)?, off.value as usize)?;
-    if !whole(line, b) {
+    let (off, rest) = number(line, b' ', bytes as u64)?;
+    let (_, rest) = hex_bytes(rest, area.get_mut(off as usize..bytes)?)?;
+    if !rest.is_empty() {
         return None;
     }
     Some(silent(s))
 }
 
 // `lend N LEN`
-pub fn lend(s: Session, line: &[u8], at: usize) -> Option<Step> {
-    let n = number(line, at, b' ', s.m.entries as u64)?;
-    let len = number(line, n.next, b' ', s.m.bytes as u64)?;
-    if !whole(line, len) {
+pub fn lend(s: Session, line: &[u8]) -> Option<Step> {
+    let (n, rest) = number(line, b' ', s.m.entries as u64)?;
+    let (len, rest) = number(rest, b' ', s.m.bytes as u64)?;
+    if !rest.is_empty() {
         return None;
     }
     Some(with_medium(
         s,
         Medium {
-            lent_entries: n.value as usize,
-            lent_bytes: len.value as usize,
+            lent_entries: n as usize,
+            lent_bytes: len as usize,
             ..s.m
         },
     ))

@@ -1,8 +1,7 @@
 // A line run against a session.
-ghost use Rattle.std.specs.Prelude.{◌≡◌, ◌≤◌, length, get_or};
+ghost use Rattle.std.specs.Prelude.{◌≡◌, get_or};
 ghost use Rattle.session_lines.specs.Steps.{silent_step};
 
-use lines::words::word_end;
 use media_lines::media;
 use printed::Output;
 use release_lines::calls;
@@ -45,48 +44,57 @@ fn alone(
 }
 
 // The lines that change nothing but the medium.
-fn on_medium(s: Session, line: &[u8], end: usize, fat: &mut [u16], area: &mut [u8]) -> Option<Step>
-    requires { end ≤ length line.now }
-{
-    let at = end + 1;
-    match &line[..end] {
-        b"medium" => media::medium(s, line, at, fat, area),
-        b"mfill" => media::mfill(s, line, at, fat),
-        b"mfat" => media::mfat(s, line, at, fat),
-        b"mdata" => media::mdata(s, line, at, area),
-        b"lend" => media::lend(s, line, at),
+fn on_medium(
+    s: Session,
+    word: &[u8],
+    line: &[u8],
+    fat: &mut [u16],
+    area: &mut [u8],
+) -> Option<Step> {
+    match word {
+        b"medium" => media::medium(s, line, fat, area),
+        b"mfill" => media::mfill(s, line, fat),
+        b"mfat" => media::mfat(s, line, fat),
+        b"mdata" => media::mdata(s, line, area),
+        b"lend" => media::lend(s, line),
         _ => None,
     }
 }
 
 // The lines that set the state.
-fn on_state(s: Session, line: &[u8], end: usize, fat: &mut [u16], area: &mut [u8]) -> Option<Step>
-    requires { end ≤ length line.now }
-{
-    let at = end + 1;
-    match &line[..end] {
-        b"rw" => mode::rw(s, line, at),
-        b"set_read_only" => mode::set_read_only(s, line, at),
-        b"pair" => direct::pair(s, line, at),
-        b"slot" => direct::slot(s, line, at),
-        b"rec" => direct::rec(s, line, at),
-        b"set" => fields::set(s, line, at),
-        _ => on_medium(s, line, end, fat, area),
+fn on_state(
+    s: Session,
+    word: &[u8],
+    line: &[u8],
+    fat: &mut [u16],
+    area: &mut [u8],
+) -> Option<Step> {
+    match word {
+        b"rw" => mode::rw(s, line),
+        b"set_read_only" => mode::set_read_only(s, line),
+        b"pair" => direct::pair(s, line),
+        b"slot" => direct::slot(s, line),
+        b"rec" => direct::rec(s, line),
+        b"set" => fields::set(s, line),
+        _ => on_medium(s, word, line, fat, area),
     }
 }
 
 // The calls that answer.
-fn on_table(s: Session, line: &[u8], end: usize, fat: &mut [u16], area: &mut [u8]) -> Option<Step>
-    requires { end ≤ length line.now }
-{
-    let at = end + 1;
-    match &line[..end] {
-        b"start" => start::start(s, line, at),
-        b"write" => writes::write(s, line, at, fat, area),
-        b"poll" => calls::poll(s, line, at, fat, area),
-        b"release_all" => calls::release_all(s, line, at, fat, area),
-        b"gone" => gone::gone(s, line, at),
-        _ => on_state(s, line, end, fat, area),
+fn on_table(
+    s: Session,
+    word: &[u8],
+    line: &[u8],
+    fat: &mut [u16],
+    area: &mut [u8],
+) -> Option<Step> {
+    match word {
+        b"start" => start::start(s, line),
+        b"write" => writes::write(s, line, fat, area),
+        b"poll" => calls::poll(s, line, fat, area),
+        b"release_all" => calls::release_all(s, line, fat, area),
+        b"gone" => gone::gone(s, line),
+        _ => on_state(s, word, line, fat, area),
     }
 }
 
@@ -97,11 +105,10 @@ fn call(
     fat: &mut [u16],
     area: &mut [u8],
 ) -> Option<Step> {
-    let end = word_end(line, 0);
-    if end == line.len() {
+    let Some(end) = line.iter().position(|c| *c == b' ') else {
         return alone(out, s, line, fat, area);
-    }
-    on_table(s, line, end, fat, area)
+    };
+    on_table(s, &line[..end], &line[end + 1..], fat, area)
 }
 
 // The session after line `number`. A line that begins with `#` is a remark, and a bad one leaves the session as it was.

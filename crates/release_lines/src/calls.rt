@@ -4,28 +4,28 @@ ghost use Rattle.release_lines.specs.declared.ends.Call.TheVariants.{Release, Bu
 ghost use Rattle.release_lines.specs.Ends.{ended_step};
 
 use crate::ends::{Call, run};
-use lines::digits::{number, whole};
+use lines::digits::number;
 use session_lines::session::{Session, Step};
 
 // `poll CLOCK BUSY MOUNTED`; the busy flag is not looked at.
-pub fn poll(s: Session, line: &[u8], at: usize, fat: &[u16], area: &[u8]) -> Option<Step> {
-    let clock = number(line, at, b' ', 18446744073709551615)?;
-    let busy = number(line, clock.next, b' ', 1)?;
-    let mounted = number(line, busy.next, b' ', 1)?;
-    if !whole(line, mounted) {
+pub fn poll(s: Session, line: &[u8], fat: &[u16], area: &[u8]) -> Option<Step> {
+    let (clock, rest) = number(line, b' ', 18446744073709551615)?;
+    let (_, rest) = number(rest, b' ', 1)?;
+    let (mounted, rest) = number(rest, b' ', 1)?;
+    if !rest.is_empty() {
         return None;
     }
-    let call = Call::Poll(clock.value, mounted.value == 1);
+    let call = Call::Poll(clock, mounted == 1);
     Some(run(s, call, fat, area))
 }
 
 // `release_all 0|1`
-pub fn release_all(s: Session, line: &[u8], at: usize, fat: &[u16], area: &[u8]) -> Option<Step> {
-    let reset = number(line, at, b' ', 1)?;
-    if !whole(line, reset) {
+pub fn release_all(s: Session, line: &[u8], fat: &[u16], area: &[u8]) -> Option<Step> {
+    let (reset, rest) = number(line, b' ', 1)?;
+    if !rest.is_empty() {
         return None;
     }
-    Some(run(s, Call::ReleaseAll(reset.value == 1), fat, area))
+    Some(run(s, Call::ReleaseAll(reset == 1), fat, area))
 }
 
 // `release`

@@ -17,8 +17,8 @@ fn ask(s: Session, on: bool) -> Step
 }
 
 // `set_read_only 0|1`
-pub fn set_read_only(s: Session, line: &[u8], at: usize) -> Option<Step> {
-    Some(ask(s, value(line, at, 1)? == 1))
+pub fn set_read_only(s: Session, line: &[u8]) -> Option<Step> {
+    Some(ask(s, value(line, 1)? == 1))
 }
 
 // `bus_reset_w`: vwrite's bus reset.
@@ -42,6 +42,6 @@ fn switch(s: Session, writable: bool) -> Step
 }
 
 // `rw 0|1`
-pub fn rw(s: Session, line: &[u8], at: usize) -> Option<Step> {
-    Some(switch(s, value(line, at, 1)? == 1))
+pub fn rw(s: Session, line: &[u8]) -> Option<Step> {
+    Some(switch(s, value(line, 1)? == 1))
 }

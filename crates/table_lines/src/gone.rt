@@ -6,7 +6,7 @@ ghost use Rattle.session_lines.specs.Steps.{files_of, with_files};
 ghost use Rattle.sessions.specs.Sessions.{report_gone};
 ghost use Rattle.table_lines.specs.Rows.{gone_step};
 
-use lines::digits::{number, whole};
+use lines::digits::number;
 use refusals::Refusal;
 use session_lines::session::{ROWS, Said, Session, Step, Table};
 use sessions::gone::report_gone;
@@ -33,10 +33,10 @@ fn report(s: Session, row: usize) -> Step
     }
 }
 
-pub fn gone(s: Session, line: &[u8], at: usize) -> Option<Step> {
-    let row = number(line, at, b' ', 18446744073709551615)?;
-    if !whole(line, row) || ROWS < s.t.n {
+pub fn gone(s: Session, line: &[u8]) -> Option<Step> {
+    let (row, rest) = number(line, b' ', 18446744073709551615)?;
+    if !rest.is_empty() || ROWS < s.t.n {
         return None;
     }
-    Some(report(s, row.value as usize))
+    Some(report(s, row as usize))
 }

@@ -1,5 +1,5 @@
 // `start FIRST ROW ROW ..`: the table is taken if a start takes it, and the state set anew.
-ghost use Rattle.std.specs.Prelude.{◌≡◌, IfSome, ◌<◌, ◌≤◌};
+ghost use Rattle.std.specs.Prelude.{◌≡◌, IfSome, ◌<◌, ◌≤◌, length};
 ghost use Rattle.refusals.specs.Refusals.{told};
 ghost use Rattle.sessions.specs.Calls.{StartsBy};
 ghost use Rattle.table_lines.specs.Rows.{lent, start_step};
@@ -10,60 +10,50 @@ use refusals::Refusal;
 use session_lines::session::{ROWS, Said, Session, Step, Table, no_files};
 use state::w::W;
 
-// A row's file, and where the next row begins.
-#[derive(Clone, Copy)]
-struct File {
-    file: VF,
-    next: usize,
-}
-
-// A row: id:slot:vstart:src:ssize:vsize.
-fn row(line: &[u8], at: usize) -> Option<File>
-    ensures { IfSome result (λ r. at < r.next) }
+// A row, id:slot:vstart:src:ssize:vsize, and the rows after it.
+fn row(line: &[u8]) -> Option<(VF, &[u8])>
+    ensures { IfSome result (λ r. length r.1.now < length line.now) }
 {
-    let id = number(line, at, b':', 65535)?;
-    let slot = number(line, id.next, b':', 65535)?;
-    let start = number(line, slot.next, b':', 65535)?;
-    let src = number(line, start.next, b':', 65535)?;
-    let ssize = number(line, src.next, b':', 4294967295)?;
-    let size = number(line, ssize.next, b' ', 4294967295)?;
+    let (id, rest) = number(line, b':', 65535)?;
+    let (slot, rest) = number(rest, b':', 65535)?;
+    let (start, rest) = number(rest, b':', 65535)?;
+    let (src, rest) = number(rest, b':', 65535)?;
+    let (ssize, rest) = number(rest, b':', 4294967295)?;
+    let (size, rest) = number(rest, b' ', 4294967295)?;
     let file = VF {
-        id: id.value as u16,
-        slot: slot.value as u16,
-        vstart: start.value as u16,
-        src: src.value as u16,
-        ssize: ssize.value as u32,
-        vsize: size.value as u32,
+        id: id as u16,
+        slot: slot as u16,
+        vstart: start as u16,
+        src: src as u16,
+        ssize: ssize as u32,
+        vsize: size as u32,
     };
-    Some(File {
-        file,
-        next: size.next,
-    })
+    Some((file, rest))
 }
 
 // The table with one more row, if it has place for it.
-fn with_row(mut t: Table, r: File) -> Option<Table>
+fn with_row(mut t: Table, file: VF) -> Option<Table>
     ensures { IfSome result (λ u. u.n ≤ 401) }
 {
     let n = t.n;
     if ROWS <= n {
         return None;
     }
-    t.files[n] = r.file;
+    t.files[n] = file;
     t.n = n + 1;
     Some(t)
 }
 
-fn rows(line: &[u8], from: usize) -> Option<Table>
+fn rows(line: &[u8]) -> Option<Table>
     ensures { IfSome result (λ t. t.n ≤ 401) }
 {
     let mut t = no_files();
-    let mut at = from;
-    // A row takes a byte or more, so no range goes over the places.
-    while at < line.len() {
-        let r = row(line, at)?;
-        t = with_row(t, r)?;
-        at = r.next;
+    let mut left = line;
+    // What is read decides how far a turn goes, so no range goes over the rows.
+    while !left.is_empty() {
+        let (file, rest) = row(left)?;
+        t = with_row(t, file)?;
+        left = rest;
     }
     Some(t)
 }
@@ -95,8 +85,8 @@ fn begin(s: Session, t: Table, first: u32) -> Step
     }
 }
 
-pub fn start(s: Session, line: &[u8], at: usize) -> Option<Step> {
-    let first = number(line, at, b' ', 4294967295)?;
-    let t = rows(line, first.next)?;
-    Some(begin(s, t, first.value as u32))
+pub fn start(s: Session, line: &[u8]) -> Option<Step> {
+    let (first, rest) = number(line, b' ', 4294967295)?;
+    let t = rows(rest)?;
+    Some(begin(s, t, first as u32))
 }

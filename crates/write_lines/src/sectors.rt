@@ -1,55 +1,51 @@
 // A sector in a line: `z` for zeros, `=` for the one shown, or 1,024 hex digits; then `@OFF:HEX,OFF:HEX,..` for bytes that differ.
-ghost use Rattle.std.specs.Prelude.{IfSome, ◌<◌};
+ghost use Rattle.std.specs.Prelude.{IfSome, ◌<◌, length};
 
-use lines::digits::{Read, field_end, hex_bytes, number};
+use lines::digits::{field_end, hex_bytes, number};
 
-fn all_bytes(line: &[u8], at: usize, out: &mut [u8]) -> Option<usize> {
-    let b = hex_bytes(line, at, out, 0)?;
-    if b.value != 512 {
+fn all_bytes<'a>(line: &'a [u8], out: &mut [u8]) -> Option<&'a [u8]> {
+    let (n, rest) = hex_bytes(line, out)?;
+    if n != 512 {
         return None;
     }
-    Some(b.next)
+    Some(rest)
 }
 
-// What it starts from, and where the line goes on.
-fn base(line: &[u8], at: usize, equals: bool, out: &mut [u8]) -> Option<usize> {
-    match line.get(at)? {
+// What it starts from, and the rest of the line.
+fn base<'a>(line: &'a [u8], equals: bool, out: &mut [u8]) -> Option<&'a [u8]> {
+    match line.first()? {
         b'z' => {
             out.fill(0);
-            Some(at + 1)
+            Some(&line[1..])
         }
-        b'=' => equals.then_some(at + 1),
-        _ => all_bytes(line, at, out),
+        b'=' => equals.then_some(&line[1..]),
+        _ => all_bytes(line, out),
     }
 }
 
 // `OFF:HEX`
-fn change(line: &[u8], at: usize, out: &mut [u8]) -> Option<usize>
-    ensures { IfSome result (λ next. at < next) }
+fn change<'a>(line: &'a [u8], out: &mut [u8]) -> Option<&'a [u8]>
+    ensures { IfSome result (λ rest. length rest.now < length line.now) }
 {
-    let off = number(line, at, b':', 511)?;
-    let b = hex_bytes(line, off.next, out, off.value as usize)?;
-    Some(b.next)
+    let (off, rest) = number(line, b':', 511)?;
+    let (_, rest) = hex_bytes(rest, out.get_mut(off as usize..)?)?;
+    Some(rest)
 }
 
 // The bytes that differ, where there are any.
-fn changes(line: &[u8], from: usize, out: &mut [u8]) -> Option<usize> {
-    let mut at = from;
+fn changes<'a>(line: &'a [u8], out: &mut [u8]) -> Option<&'a [u8]> {
+    let mut left = line;
     let mut mark = b'@';
-    // A change takes a byte or more, so no range goes over the places.
-    while at < line.len() {
-        if line[at] != mark {
-            return Some(at);
-        }
-        at = change(line, at + 1, out)?;
+    // What is read decides how far a turn goes, so no range goes over the changes.
+    while left.first() == Some(&mark) {
+        left = change(&left[1..], out)?;
         mark = b',';
     }
-    Some(at)
+    Some(left)
 }
 
-// The sector field at `at` into `out`; `equals` says that `=` leaves it.
-pub fn sector_field(line: &[u8], at: usize, equals: bool, out: &mut [u8]) -> Option<Read> {
-    let from = base(line, at, equals, out)?;
-    let next = changes(line, from, out)?;
-    field_end(line, Read { value: 0, next }, b' ')
+// The sector field with which the line begins, into `out`; `equals` says that `=` leaves it.
+pub fn sector_field<'a>(line: &'a [u8], equals: bool, out: &mut [u8]) -> Option<&'a [u8]> {
+    let from = base(line, equals, out)?;
+    field_end(changes(from, out)?, b' ')
 }

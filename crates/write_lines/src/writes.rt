@@ -6,7 +6,7 @@ ghost use Rattle.session_lines.specs.Steps.{files_of, with_files};
 ghost use Rattle.write_lines.specs.Writes.{sent, write_step, write_area};
 
 use crate::sectors::sector_field;
-use lines::digits::{number, whole};
+use lines::digits::number;
 use refusals::told;
 use session_lines::session::{Said, Session, Step, Table, bad, can_lend};
 use state::w::W;
@@ -69,24 +69,15 @@ fn judged(
 }
 
 // The mounted flag is not looked at.
-pub fn write(s: Session, line: &[u8], at: usize, fat: &[u16], area: &mut [u8]) -> Option<Step> {
-    let place = number(line, at, b' ', 4294967295)?;
-    let busy = number(line, place.next, b' ', 1)?;
-    let mounted = number(line, busy.next, b' ', 1)?;
+pub fn write(s: Session, line: &[u8], fat: &[u16], area: &mut [u8]) -> Option<Step> {
+    let (place, rest) = number(line, b' ', 4294967295)?;
+    let (busy, rest) = number(rest, b' ', 1)?;
+    let (_, rest) = number(rest, b' ', 1)?;
     let mut shown = [0u8; 512];
-    let from = sector_field(line, mounted.next, false, &mut shown)?;
+    let rest = sector_field(rest, false, &mut shown)?;
     let mut written = shown;
-    let last = sector_field(line, from.next, true, &mut written)?;
-    if !whole(line, last) {
+    if !sector_field(rest, true, &mut written)?.is_empty() {
         return None;
     }
-    Some(judged(
-        s,
-        place.value as u32,
-        &shown,
-        &written,
-        busy.value == 1,
-        fat,
-        area,
-    ))
+    Some(judged(s, place as u32, &shown, &written, busy == 1, fat, area))
 }
