@@ -1,2 +1,4 @@
+pub mod ColumnLaws
 pub mod FileRows
 pub mod RowLaws
+pub mod KeyLaws

@@ -1,21 +1,19 @@
 -- What a row of a lent table says of its columns.
-use Rattle.std.specs.Prelude.{ℕ, zero, suc, ◌+◌, ◌-◌, ◌<◌, ◌≤◌, ◌%◌, Bool, true, false, not, List, map, ◌≡◌, refl, eqb, leb, length, get_or, take}
-use Rattle.std.proofs.Common.{sym, ap, ◌∙◌, arith, lt-ltb, le-ltb, le-leb, eqb-true, eq-eqb, ne_eqb}
+use Rattle.std.specs.Prelude.{ℕ, zero, suc, ◌+◌, ◌-◌, ◌<◌, ◌≤◌, Bool, true, false, not, List, map, ◌≡◌, refl, eqb, leb, length, get_or}
+use Rattle.std.proofs.Common.{arith, lt-ltb, le-ltb, le-leb, eqb-true}
 use Rattle.std.proofs.lemmas.Bool.{lt-leb, eqb-false}
-use Rattle.std.proofs.lemmas.List.{length-map, get_or-take}
+use Rattle.std.proofs.lemmas.List.{length-map}
 use Rattle.loops.specs.Loops.{all, some, last}
 use Rattle.loops.specs.Choices.{either}
 use Rattle.loops.specs.Facts.{last-above, last-below}
 use Rattle.vdisk.specs.Drive.{clusters_of}
-use Rattle.vdisk.specs.Ids.{same_name}
-use Rattle.vdisk.specs.IdLaws.{same_name-low}
 use Rattle.vdisk.specs.Owner.{starts_by, up_to, rises_at, rises}
 use Rattle.vdisk.specs.OwnerLaws.{rises-le}
 use Rattle.std.specs.List.Sorted.{IsNonDecreasingBy, IsPartitionPoint}
 use Rattle.std.proofs.lemmas.List.Sorted.{IsNonDecreasingBy-from_default}
-use Rattle.file_table.specs.Files.{id_of, dir_slot_of, start_of, size_of}
-use Rattle.file_table.specs.Table.{file_in, clusters_in, same_place}
-use Rattle.file_table.specs.TableLaws.{ends_by, place_key, place-key}
+use Rattle.file_table.specs.Files.{start_of, size_of}
+use Rattle.file_table.specs.Table.{file_in, clusters_in}
+use Rattle.file_table.specs.TableLaws.{ends_by}
 use Rattle.file_table.specs.declared.VF.{VF}
 use Rattle.file_table.proofs.FileRows.{column-at}
 
@@ -66,39 +64,6 @@ none p (suc n) i = either (p i) (λ e. rw e (none p n (i + 1))) (λ e. rw e)
 pub all-none : (fs : List VF) → not (some (falls_at (map start_of fs)) (length (map start_of fs) - 1) 0) ≡ rises (map start_of fs)
 unfolding rises
 all-none fs = none (rises_at (map start_of fs)) (length (map start_of fs) - 1) 0
-
--- row i, one of the first j, and row j
-module _ (fs : List VF) (i j : ℕ) (d : VF) (l : i < j) (h : j < length fs) where
-  earlier : (g : VF → ℕ) → g (get_or (take j fs) i d) ≡ get_or (map g fs) i 0
-  earlier g = ap g (get_or-take j fs i d l) ∙ sym (column-at g fs i d (omega arith))
-
-  names : same_name (get_or (map id_of fs) i 0) (get_or (map id_of fs) j 0) ≡ eqb ((get_or (take j fs) i d).id % 4096) ((get_or fs j d).id % 4096)
-  names = rw (earlier id_of, ← column-at id_of fs j d h) (sym (same_name-low (get_or (map id_of fs) i 0) (get_or (map id_of fs) j 0)))
-
-  pub name-shared : (n : ℕ) → n ≡ (get_or fs j d).id % 4096 → (get_or (take j fs) i d).id % 4096 ≡ n
-      → same_name (get_or (map id_of fs) i 0) (get_or (map id_of fs) j 0) ≡ true
-  name-shared n e q = names ∙ eq-eqb _ _ (q ∙ e)
-
-  pub name-apart : (n : ℕ) → n ≡ (get_or fs j d).id % 4096 → ((get_or (take j fs) i d).id % 4096 ≡ n → ⊥)
-      → same_name (get_or (map id_of fs) i 0) (get_or (map id_of fs) j 0) ≡ false
-  name-apart n e q = names ∙ ne_eqb _ _ (λ z. q (z ∙ sym e))
-
-  places : (get_or (map dir_slot_of fs) i 0) < 65536 → (get_or fs j d).slot < 65536
-      → same_place (map id_of fs) (map dir_slot_of fs) i j
-      ≡ eqb (place_key (get_or (take j fs) i d).id (get_or (take j fs) i d).slot) (place_key (get_or fs j d).id (get_or fs j d).slot)
-  places a b =
-      let s = column-at dir_slot_of fs j d h in
-      rw (earlier id_of, earlier dir_slot_of, ← column-at id_of fs j d h, ← s) (sym (place-key (map id_of fs) (map dir_slot_of fs) i j a (rw s b)))
-
-  pub place-shared : (get_or (take j fs) i d).slot < 65536 → (get_or fs j d).slot < 65536 → (m n : ℕ)
-      → m ≡ place_key (get_or (take j fs) i d).id (get_or (take j fs) i d).slot → n ≡ place_key (get_or fs j d).id (get_or fs j d).slot → m ≡ n
-      → same_place (map id_of fs) (map dir_slot_of fs) i j ≡ true
-  place-shared a b m n e q z = places (rw (earlier dir_slot_of) at a) b ∙ eq-eqb _ _ (sym e ∙ z ∙ q)
-
-  pub place-apart : (get_or (take j fs) i d).slot < 65536 → (get_or fs j d).slot < 65536 → (m n : ℕ)
-      → m ≡ place_key (get_or (take j fs) i d).id (get_or (take j fs) i d).slot → n ≡ place_key (get_or fs j d).id (get_or fs j d).slot → (m ≡ n → ⊥)
-      → same_place (map id_of fs) (map dir_slot_of fs) i j ≡ false
-  place-apart a b m n e q z = places (rw (earlier dir_slot_of) at a) b ∙ ne_eqb _ _ (λ w. z (e ∙ w ∙ sym q))
 
 -- rising starts as the library's search by halves asks for them, and the place that it finds
 pub starts-rise : (fs : List VF) → rises (map start_of fs) ≡ true → IsNonDecreasingBy start_of fs

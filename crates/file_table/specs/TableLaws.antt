@@ -4,7 +4,7 @@ use Rattle.std.proofs.Math.Bool.{not}
 use Rattle.std.proofs.Common.{ap, arith}
 use Rattle.std.proofs.Math.Dec.{ltb, leb}
 use borrow.Author.Tests.{eq-eqb, ltb-true, ltb-false, leb-true, le-leb, lt-leb, le-ltb, eqb-true, eqb-false}
-use Rattle.loops.specs.Loops.{all}
+use Rattle.loops.specs.Loops.{all, some}
 use Rattle.loops.specs.Choices.{either, same-if, and-0, and-1, and-of, and-no, or-by, or-l, or-r, not-both}
 use Rattle.loops.specs.Facts.{all-at, all-of}
 use Rattle.vdisk.specs.Drive.{clusters_of, last_cluster}
@@ -81,6 +81,10 @@ module _ (first start n : ℕ) where
       (all-at (λ k. leb first (start + k) && leb (start + k) last_cluster) n 0 (n - 1) e (omega arith) (omega arith)) in
       let z = leb-true (start + (n - 1)) last_cluster q in
       le-leb (start + n) 65002 (omega arith))
+
+-- key j is that of an earlier file too
+unfoldable pub repeated : List ℕ → ℕ → Bool
+repeated keys j = some (λ i. eqb (get_or keys i 0) (get_or keys j 0)) j 0
 
 -- shown directory and slot as one number, which tells places of 16 bits apart
 unfoldable pub place_key : ℕ → ℕ → ℕ

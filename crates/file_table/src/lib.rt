@@ -2,13 +2,14 @@
 
 #![tactic(auto)]
 
+pub mod columns;
 pub mod owner;
 
-ghost use Rattle.std.specs.Prelude.{◌≡◌, true, ℕ, ◌<◌, map, length};
+ghost use Rattle.std.specs.Prelude.{◌≡◌, true, ℕ, ◌<◌, ◌≤◌, map, length};
 ghost use Rattle.vdisk.specs.Owner.{rises};
 ghost use Rattle.file_table.specs.Files.{id_of, dir_slot_of, start_of, size_of};
-ghost use Rattle.file_table.specs.TableLaws.{place_key};
-ghost use Rattle.file_table.specs.Table.{all_unmarked, starts_apart, clusters_in, all_in, clusters_fit, names_apart, shares_name, places_apart, shares_place, columns, accepts};
+ghost use Rattle.file_table.specs.TableLaws.{place_key, repeated};
+ghost use Rattle.file_table.specs.Table.{max_files, all_unmarked, starts_apart, clusters_in, all_in, clusters_fit, names_apart, places_apart, columns, accepts};
 
 use crate::owner::rising;
 use vdisk::drive::{CLUSTERS, nclus};
@@ -77,26 +78,30 @@ fn all_in(files: &[VF], first: u32) -> bool
     true
 }
 
-// Both searches among the earlier rows go on after a find, so that the compiler compares many rows at once.
-fn shares_name(files: &[VF], j: usize) -> bool
-    requires { j < length files.now }
-    ensures { result ≡ shares_name (map id_of files.now) j }
+// Is key `j` that of an earlier file too. The search goes on after a find, so that the compiler compares many keys at once.
+fn is_repeated(keys: &[u32; MAX_VF], j: usize) -> bool
+    requires { j < max_files }
+    ensures { result ≡ repeated keys.now j }
 {
-    let name = clear_marks(files[j].id);
+    let key = keys[j];
     let mut found = false;
-    for f in &files[..j] {
-        if f.id % 4096 == name {
+    for earlier in &keys[..j] {
+        if *earlier == key {
             found = true;
         }
     }
     found
 }
 
+// The keys lie beside each other, where the names lie a row apart.
 fn names_apart(files: &[VF]) -> bool
+    requires { length files.now ≤ max_files }
     ensures { result ≡ names_apart (map id_of files.now) }
 {
+    let mut keys = [0u32; MAX_VF];
     for j in 0..files.len() {
-        if shares_name(files, j) {
+        keys[j] = clear_marks(files[j].id) as u32;
+        if is_repeated(&keys, j) {
             return false;
         }
     }
@@ -110,25 +115,14 @@ fn place_key(id: u16, slot: u16) -> u32
     id_dir(id) as u32 * 65536 + slot as u32
 }
 
-fn shares_place(files: &[VF], j: usize) -> bool
-    requires { j < length files.now }
-    ensures { result ≡ shares_place (map id_of files.now) (map dir_slot_of files.now) j }
-{
-    let key = place_key(files[j].id, files[j].slot);
-    let mut found = false;
-    for f in &files[..j] {
-        if place_key(f.id, f.slot) == key {
-            found = true;
-        }
-    }
-    found
-}
-
 fn places_apart(files: &[VF]) -> bool
+    requires { length files.now ≤ max_files }
     ensures { result ≡ places_apart (map id_of files.now) (map dir_slot_of files.now) }
 {
+    let mut keys = [0u32; MAX_VF];
     for j in 0..files.len() {
-        if shares_place(files, j) {
+        keys[j] = place_key(files[j].id, files[j].slot);
+        if is_repeated(&keys, j) {
             return false;
         }
     }

@@ -1,5 +1,5 @@
 // Tables that a start takes or not.
-use file_table::{VF, table_ok};
+use file_table::columns::columns_ok;
 use printed::Output;
 use std::io::Write;
 
@@ -11,35 +11,6 @@ const SLOTS: [u16; 3] = [2, 3, 2];
 const STARTS: [u16; 3] = [100, 102, 200];
 
 const SIZES: [u32; 3] = [32769, 0, 32768];
-
-const NO_FILE: VF = VF {
-    id: 0,
-    slot: 0,
-    vstart: 0,
-    src: 0,
-    ssize: 0,
-    vsize: 0,
-};
-
-// Does a start take the table with these columns. Columns of different lengths are those of no table.
-fn columns_ok(ids: &[u16], slots: &[u16], starts: &[u16], sizes: &[u32], first: u32) -> bool {
-    let n = ids.len();
-    if slots.len() != n || starts.len() != n || sizes.len() != n || 401 < n {
-        return false;
-    }
-    let mut rows = [NO_FILE; 401];
-    for j in 0..n {
-        rows[j] = VF {
-            id: ids[j],
-            slot: slots[j],
-            vstart: starts[j],
-            src: 0,
-            ssize: 0,
-            vsize: sizes[j],
-        };
-    }
-    table_ok(&rows[..n], first)
-}
 
 fn show(
     out: &mut Output<impl Write>,
