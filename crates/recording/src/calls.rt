@@ -5,7 +5,7 @@ ghost use Rattle.session_lines.specs.Steps.{silent_step};
 use media_lines::media;
 use printed::Output;
 use release_lines::calls;
-use session_lines::session::{Said, Session, Step, bad, silent};
+use session_lines::session::{Said, Session, Step, silent};
 use session_shown::shown;
 use state_lines::{direct, fields, mode};
 use std::io::Write;
@@ -125,7 +125,10 @@ pub fn run(
     if line.first() == Some(&b'#') {
         return s;
     }
-    let step = call(out, s, line, fat, area).unwrap_or(bad(s));
+    let Some(step) = call(out, s, line, fat, area) else {
+        shown::answer(out, number, Said::Bad);
+        return s;
+    };
     shown::answer(out, number, step.said);
     step.s
 }

@@ -67,7 +67,7 @@ fn said(r: Result<Ended, Refusal>) -> Said
 }
 
 // ... and as much of the medium as is lent.
-pub fn run(s: Session, call: Call, fat: &[u16], area: &[u8]) -> Step
+pub fn run(mut s: Session, call: Call, fat: &[u16], area: &[u8]) -> Step
     ensures { result ≡ ended_step call s fat.now area.now }
 {
     let entries = s.m.lent_entries;
@@ -75,11 +75,6 @@ pub fn run(s: Session, call: Call, fat: &[u16], area: &[u8]) -> Step
     if !can_lend(s, fat, area) {
         return bad(s);
     }
-    let mut w = s.w;
-    let mut t = s.t;
-    let r = on_table(call, &mut t, &mut w, &fat[..entries], &area[..bytes]);
-    Step {
-        said: said(r),
-        s: Session { w, t, ..s },
-    }
+    let r = on_table(call, &mut s.t, &mut s.w, &fat[..entries], &area[..bytes]);
+    Step { said: said(r), s }
 }

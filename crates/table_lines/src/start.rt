@@ -31,30 +31,24 @@ fn row(line: &[u8]) -> Option<(VF, &[u8])>
     Some((file, rest))
 }
 
-// The table with one more row, if it has place for it.
-fn with_row(mut t: Table, file: VF) -> Option<Table>
-    ensures { IfSome result (λ u. u.n ≤ 401) }
-{
-    let n = t.n;
-    if ROWS <= n {
-        return None;
-    }
-    t.files[n] = file;
-    t.n = n + 1;
-    Some(t)
-}
-
+// A row more than the table has place for is none.
 fn rows(line: &[u8]) -> Option<Table>
     ensures { IfSome result (λ t. t.n ≤ 401) }
 {
     let mut t = no_files();
+    let mut n = 0;
     let mut left = line;
     // What is read decides how far a turn goes, so no range goes over the rows.
     while !left.is_empty() {
         let (file, rest) = row(left)?;
-        t = with_row(t, file)?;
+        if ROWS <= n {
+            return None;
+        }
+        t.files[n] = file;
+        n += 1;
         left = rest;
     }
+    t.n = n;
     Some(t)
 }
 
