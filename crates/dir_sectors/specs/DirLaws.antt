@@ -1,22 +1,20 @@
 -- Laws of a written directory sector.
-use Rattle.std.specs.Prelude.{ℕ, suc, ◌+◌, ◌*◌, ◌<◌, ◌≤◌, Bool, not, ◌&&◌, ◌||◌, List, [], ◌∷◌, ◌++◌, ◌≡◌, ltb, eqb, length, take, drop, Option, Some, None}
+use Rattle.std.specs.Prelude.{ℕ, ◌+◌, ◌*◌, ◌<◌, ◌≤◌, Bool, not, ◌&&◌, ◌||◌, List, [], ◌∷◌, ◌≡◌, ltb, eqb, length, Option, Some, None}
 use Rattle.std.proofs.Math.Bool.{true, false}
 use Rattle.std.proofs.Math.Path.{refl}
 use Rattle.std.proofs.lemmas.Bool.{false≢true}
-use Rattle.std.proofs.Common.{sym, ◌∙◌, ap, add-one, drop-cons, take-suc}
+use Rattle.std.proofs.Common.{sym, ◌∙◌, ap}
 use native.Mathlib.Omega.{arith}
 use Rattle.std.proofs.Math.ListN.{get_or}
-use Rattle.std.proofs.Math.Seq.{append_snoc}
-use borrow.Author.Tests.{eqb-true, eq-eqb, ne_eqb}
+use borrow.Author.Tests.{eqb-true, eq-eqb}
 use Rattle.loops.specs.Loops.{pick, all, some}
 use Rattle.loops.specs.Choices.{either, picked, and-no, or-l, or-r}
 use Rattle.loops.specs.Facts.{all-at, all-of, some-in, some-at}
 use Rattle.loops.specs.Found.{find, find-lt}
-use Rattle.loops.specs.Rows.{rows as rows_of, rows_from, rows-at, rows-length, rows-same}
+use Rattle.loops.specs.Rows.{rows as rows_of, rows_from, rows-same}
 use Rattle.loops.specs.Marks.{Marks, is_at, picked_by, marked}
 use Rattle.bits.specs.Bit.{set_bit}
 use Rattle.file_table.specs.Table.{max_files}
-use Rattle.vdisk.specs.Ids.{id_dir_of}
 use Rattle.slots.specs.Slots.{is_date, same_byte, same_slot, date_at, dates_only, turn_at}
 use Rattle.state.specs.declared.w.St.{St}
 use Rattle.medium.specs.Reads.{moved_ref}

@@ -62,6 +62,7 @@ pub(crate) fn slot_turns(files: &[VF], k: u16, s: u32, sectors: Sectors) -> Resu
     let written = sectors.written;
     let mut rows = [0u8; MAX_VF];
     let mut any = false;
+    let mut end = 0usize;
     for i in 0..16 {
         if same_slot(shown, written, i as usize * 32) {
             continue;
@@ -74,6 +75,7 @@ pub(crate) fn slot_turns(files: &[VF], k: u16, s: u32, sectors: Sectors) -> Resu
         };
         rows[j] = 1;
         any = true;
+        end = end.max(j + 1);
     }
-    Ok(Turns { any, rows })
+    Ok(Turns { any, end, rows })
 }

@@ -8,10 +8,11 @@ use Rattle.loops.specs.Rows.{rows}
 use Rattle.bits.specs.Bit.{set_bit}
 use Rattle.file_table.specs.Files.{id_of, start_of, size_of, with_ids}
 use Rattle.file_table.specs.declared.VF.{VF}
-use Rattle.file_table.proofs.FileRows.{column-at, files-start, files-read, files-more, files-end}
+use Rattle.file_table.proofs.FileRows.{column-at, files-start, files-read, files-more}
 use Rattle.state.specs.declared.w.St.{St}
 use Rattle.medium.specs.Reads.{moved_ref}
 use Rattle.dir_sectors.specs.Turned.{mark_id}
+use Rattle.dir_sectors.proofs.MarkLaws.{rows-past}
 use native.Mathlib.Omega.{arith}
 use Rattle.dir_sectors.proofs.marks.mark_rows.Goals as goal
 
@@ -39,8 +40,14 @@ loop-j-preserved c =
     let f = mark_id a.rows.now (map start_of a.files.now) (map size_of a.files.now) a.fat.now a.area.now a.st.now in
     files-more f a.files.now l.files l.j l.invariant _ _ (marked a.rows.now a.fat.now a.area.now a.st.now a.files.now l.files l.j _ _ l.invariant (omega arith) c.turned_id.ensures) (omega arith)
 
+-- a row that isn't marked stays
+unmarked : (marks starts sizes fat area : List ℕ) (st : List St) (j id : ℕ) → get_or marks j 0 ≡ 0 → mark_id marks starts sizes fat area st j id ≡ id
+unfolding mark_id
+unmarked marks starts sizes fat area st j id e = rw e
+
 pub returns : goal.returns
 returns c =
     let a = c.args in
     let f = mark_id a.rows.now (map start_of a.files.now) (map size_of a.files.now) a.fat.now a.area.now a.st.now in
-    files-end f a.files.now c.loop-j.files c.loop-j.j c.loop-j.invariant (omega arith)
+    rows-past f a.files.now c.loop-j.files c.loop-j.j c.loop-j.invariant
+    (λ j id l h. unmarked a.rows.now (map start_of a.files.now) (map size_of a.files.now) a.fat.now a.area.now a.st.now j id (c.requires.1 j (omega arith)))
