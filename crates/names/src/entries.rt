@@ -1,5 +1,5 @@
 // The entries of a long name: where they stand, and how many are read.
-ghost use Rattle.std.specs.Prelude.{◌≡◌, ℕ, ◌<◌};
+ghost use Rattle.std.specs.Prelude.{◌≡◌, ℕ, ◌<◌, ◌≤◌, length};
 ghost use Rattle.names.specs.Names.{entry_of, char_place, char_of, ends, text_len, entries_read, entries_strict};
 
 use records::{NREC, Rec};
@@ -36,8 +36,8 @@ fn char_place(i: usize) -> usize
 }
 
 // Character `i` of an entry.
-pub fn char_at(entry: &[u8; 32], i: usize) -> u16
-    requires { i < 13 }
+pub fn char_at(entry: &[u8], i: usize) -> u16
+    requires { (32 ≤ length entry.now) × (i < 13) }
     ensures { result ≡ char_of entry.now i }
 {
     sector::le16(entry, char_place(i))
@@ -53,7 +53,8 @@ fn ends_name(c: u16) -> bool
 }
 
 // How many characters stand before the end of the name in this entry, 13 where it doesn't end here.
-pub fn text_len(entry: &[u8; 32]) -> usize
+pub fn text_len(entry: &[u8]) -> usize
+    requires { 32 ≤ length entry.now }
     ensures { result ≡ text_len entry.now }
 {
     for i in 0..13 {

@@ -86,8 +86,8 @@ fn put_part(chars: &mut [u8], n: usize, bytes: &[u8], at: usize, end: usize) -> 
 }
 
 // The short name of the slot at `at`, with its dot.
-pub fn short_text(sector: &Sector, at: usize) -> Name
-    requires { at + 32 ≤ 512 }
+pub fn short_text(sector: &[u8], at: usize) -> Name
+    requires { at + 32 ≤ length sector.now }
     ensures { (result.len ≤ 32) × (held result ≡ take 32 (short_name sector.now at)) }
 {
     let mut chars = [0u8; 32];
