@@ -89,19 +89,21 @@ fn hex_byte(high: u8, low: u8) -> Option<u8>
 }
 
 // The bytes that the hex digits give with which the line begins, put into `out`: how many, and the rest of the line.
+// Where their number is odd or `out` is too short the answer is None, and the pairs that fit are stored all the same.
 pub fn hex_bytes<'a>(line: &'a [u8], out: &mut [u8]) -> Option<(usize, &'a [u8])>
-    ensures { IfSome result (λ r. length r.1.now < length line.now) }
+    ensures onward { IfSome result (λ r. length r.1.now < length line.now) }
+    ensures room { length out.new ≡ length out.old }
 {
     let n = line
         .iter()
         .position(|c| !c.is_ascii_hexdigit())
         .unwrap_or(line.len());
     let bytes = n / 2;
+    for i in 0..bytes.min(out.len()) {
+        out[i] = hex_byte(line[2 * i], line[2 * i + 1])?;
+    }
     if n == 0 || n % 2 == 1 || out.len() < bytes {
         return None;
-    }
-    for i in 0..bytes {
-        out[i] = hex_byte(line[2 * i], line[2 * i + 1])?;
     }
     Some((bytes, &line[n..]))
 }
