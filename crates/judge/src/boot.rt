@@ -23,7 +23,7 @@ fn byte_passes(shown: &Sector, written: &Sector, i: usize) -> bool
     shown[i] == written[i]
 }
 
-fn boot_passes(shown: &Sector, written: &Sector) -> bool
+pub fn boot_passes(shown: &Sector, written: &Sector) -> bool
     ensures { result ≡ boot_passes shown.now written.now }
 {
     for i in 0..512 {
@@ -35,7 +35,7 @@ fn boot_passes(shown: &Sector, written: &Sector) -> bool
 }
 
 // Only byte 0x25 may differ; it is kept.
-pub(crate) fn boot(w: &mut W, sectors: Sectors) -> Result<(), Refusal>
+pub fn boot(w: &mut W, sectors: Sectors) -> Result<(), Refusal>
     ensures number { told result ≡ pick (boot_passes sectors.entry.shown.now sectors.entry.written.now) 0 3 }
     ensures state { w.new ≡ pick (boot_passes sectors.entry.shown.now sectors.entry.written.now) (with_boot w.old (get_or sectors.entry.written.now 0x25 0)) w.old }
 {

@@ -2,6 +2,6 @@
 
 #![tactic(auto)]
 
-mod boot;
+pub mod boot;
 pub mod classify;
 mod data;

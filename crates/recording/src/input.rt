@@ -9,7 +9,7 @@ use std::io::{Read, Write};
 const INPUT_MOST: u64 = 65536;
 
 // From a fresh session on, with the medium in what is lent.
-fn run_all(out: &mut Output<impl Write>, input: &[u8], fat: &mut [u16], area: &mut [u8]) {
+pub fn run_all(out: &mut Output<impl Write>, input: &[u8], fat: &mut [u16], area: &mut [u8]) {
     let mut s = fresh();
     for (i, line) in input.split_inclusive(|c| *c == b'\n').enumerate() {
         let text = line.strip_suffix(b"\n").unwrap_or(line);

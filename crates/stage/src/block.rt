@@ -17,7 +17,7 @@ use staging::blocks::{fill_block, held_for, hold_block, is_parked, mark_written}
 use state::w::{St, W};
 
 // No block is held, or a parked one: a free block is searched for.
-fn needs_block(slot: &St, s: u32) -> bool
+pub fn needs_block(slot: &St, s: u32) -> bool
     requires { s < 64 }
     ensures { result ≡ (eqb (held_for slot.now s) 0 || is_parked slot.now s) }
 {
@@ -25,7 +25,7 @@ fn needs_block(slot: &St, s: u32) -> bool
 }
 
 // No block is held, or one of the medium's.
-fn held_inside(slot: &St, s: u32, fat: &[u16], area: &[u8]) -> bool
+pub fn held_inside(slot: &St, s: u32, fat: &[u16], area: &[u8]) -> bool
     requires { s < 64 }
     ensures { result ≡ (eqb (held_for slot.now s) 0 || has_block fat.now area.now (held_for slot.now s)) }
 {
@@ -34,7 +34,7 @@ fn held_inside(slot: &St, s: u32, fat: &[u16], area: &[u8]) -> bool
 }
 
 // Zeros of a block that is not held take no block.
-fn takes_none(slot: &St, s: u32, written: &Sector) -> bool
+pub fn takes_none(slot: &St, s: u32, written: &Sector) -> bool
     requires { s < 64 }
     ensures { result ≡ (eqb (held_for slot.now s) 0 && zeros written.now) }
 {

@@ -2,8 +2,8 @@
 
 #![tactic(auto)]
 
-mod block;
-mod slot;
+pub mod block;
+pub mod slot;
 
 ghost use Rattle.std.specs.Prelude.{◌≡◌, ℕ, ◌<◌, false};
 ghost use Rattle.file_table.specs.Files.{with_ids};

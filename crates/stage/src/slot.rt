@@ -16,7 +16,7 @@ use staging::blocks::is_parked;
 use state::w::{St, W};
 
 // The block is parked, and the sector reads as it is written again.
-fn same_parked(slot: &St, s: u32, written: &Sector, fat: &[u16], area: &[u8]) -> bool
+pub fn same_parked(slot: &St, s: u32, written: &Sector, fat: &[u16], area: &[u8]) -> bool
     requires { s < 64 }
     ensures { result ≡ (is_parked slot.now s && same (sector_of fat.now area.now slot.now s) written.now) }
 {

@@ -30,7 +30,7 @@ pub fn held_for(slot: &St, s: u32) -> u16
 }
 
 // Bit `j` cleared.
-fn clear_bit(number: u8, j: u32) -> u8
+pub fn clear_bit(number: u8, j: u32) -> u8
     requires { j < 8 }
     ensures { result ≡ clear_bit number j }
 {
@@ -60,7 +60,7 @@ pub fn hold_block(slot: &mut St, s: u32, block: u16)
 }
 
 // The sector put into a block, through the part of the data area that starts at its place.
-fn put_sector(area: &mut [u8], block: usize, at: usize, written: &Sector)
+pub fn put_sector(area: &mut [u8], block: usize, at: usize, written: &Sector)
     requires { InArea area.old block × (at + 512 ≤ 4096) }
     ensures { area.new ≡ area_with area.old block (put_part (block_of area.old block) at written.now) }
 {
