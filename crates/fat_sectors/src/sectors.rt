@@ -1,5 +1,5 @@
 // A written FAT sector: whether it is taken, and what a taken one changes.
-ghost use Rattle.std.specs.Prelude.{◌≡◌, ◌<◌, ◌≤◌, eqb, map, length, get_or};
+ghost use Rattle.std.specs.Prelude.{◌≡◌, ◌+◌, ◌<◌, ◌≤◌, eqb, map, length, get_or};
 ghost use Rattle.loops.specs.Loops.{pick};
 ghost use Rattle.loops.specs.Rows.{rows as rows_of};
 ghost use Rattle.bits.specs.Bit.{set_bit};
@@ -12,12 +12,12 @@ use crate::fat_sector::FatSector;
 use file_table::owner::Files;
 use file_table::{MAX_VF, VF};
 use refusals::Refusal;
-use sector::Sectors;
+use sector::{Sector, Sectors};
 use state::w::W;
 use vdisk::ids::FREED;
 
-// So many bytes of a sector differ where few entries do; the count goes round past 255, which tells nothing wrong, but takes longer.
-const FEW_BYTES: u8 = 8;
+// So many bytes of a sector differ at most where few entries do.
+const FEW_BYTES: u16 = 8;
 
 fn freed_id(mark: u8, id: u16) -> u16
     ensures { result ≡ pick (eqb mark 1) (set_bit id 13) id }
@@ -38,6 +38,20 @@ fn mark_freed(files: &mut [VF], rows: &[u8; MAX_VF])
     }
 }
 
+// How many of the 128 bytes from `at` on differ. A count in 8 bits holds them, and the compiler adds many of those at once.
+fn differing_from(shown: &Sector, written: &Sector, at: usize) -> u8
+    requires { at + 128 ≤ 512 }
+    ensures { result ≤ 128 }
+{
+    let mut differing = 0u8;
+    for i in at..at + 128 {
+        if shown[i] != written[i] {
+            differing += 1;
+        }
+    }
+    differing
+}
+
 // The table as it is searched for the entries of a sector: row by row for a few, since telling whether the starts rise looks at every row.
 fn table_for<'a>(files: &'a [VF], first: u32, sectors: Sectors) -> Files<'a>
     ensures same_rows { result.rows.now ≡ files.now }
@@ -45,9 +59,9 @@ fn table_for<'a>(files: &'a [VF], first: u32, sectors: Sectors) -> Files<'a>
 {
     let shown = sectors.shown;
     let written = sectors.written;
-    let mut differing = 0u8;
-    for (x, y) in shown.iter().zip(written) {
-        differing = differing.wrapping_add((x != y) as u8);
+    let mut differing = 0u16;
+    for quarter in 0..4 {
+        differing += differing_from(shown, written, quarter * 128) as u16;
     }
     if differing <= FEW_BYTES {
         return Files::by_rows(files, first);
