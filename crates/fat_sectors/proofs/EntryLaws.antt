@@ -1,15 +1,16 @@
 -- Laws of one changed entry, by the owner of its cluster.
-use Rattle.std.specs.Prelude.{ℕ, ◌+◌, ◌-◌, ◌*◌, ◌<◌, ◌≤◌, min, max, List, get_or, true, false, not, ◌&&◌, ◌≡◌, refl, eqb, length, Some, None}
+use Rattle.std.specs.Prelude.{ℕ, ◌+◌, ◌-◌, ◌*◌, ◌<◌, ◌≤◌, min, max, List, get_or, true, false, not, ◌&&◌, ◌≡◌, refl, eqb, length, Option, Some, None}
 use Rattle.std.proofs.Common.{sym, ◌∙◌, arith, lt-ltb, eq-eqb, ne_eqb}
-use Rattle.std.proofs.lemmas.Bool.{eqb-false}
-use Rattle.loops.specs.Loops.{pick, all}
+use Rattle.std.proofs.lemmas.Bool.{false≢true, eqb-false}
+use Rattle.loops.specs.Loops.{pick, all, some}
+use Rattle.loops.specs.Facts.{some-in, some-at}
 use Rattle.loops.specs.Choices.{either, picked, and-1}
 use Rattle.vdisk.specs.Owner.{owner_of}
 use Rattle.vdisk.specs.OwnerLaws.{owner-is}
 use Rattle.vdisk.specs.declared.owner.Own.{Own}
 use Rattle.vdisk.specs.declared.owner.Own.TheVariants.{Reserved, Fixed, Dyn, Free}
 use Rattle.vdisk.specs.Drive.{clusters_of}
-use Rattle.loops.specs.Marks.{Marks, marked}
+use Rattle.loops.specs.Marks.{is_at, picked_by, Marks, marked}
 use Rattle.file_table.specs.Files.{start_of, size_of}
 use Rattle.file_table.specs.Table.{max_files}
 use Rattle.file_table.specs.declared.VF.{VF}
@@ -20,7 +21,7 @@ use Rattle.fat_sectors.specs.Values.{fat1_passes}
 use Rattle.fat_sectors.specs.Fat.{FatWrite, cluster_at, value_at, changed_at, owner_at, zeroes_file, host_number, own_number, entry_number, needs_pair}
 use Rattle.fat_sectors.specs.Fat.{freed_own, freed_by, frees_row, freed_owner}
 use Rattle.fat_sectors.specs.FatLaws.{same-frees, freed_own-is, zero_of, zeroes-range}
-use Rattle.fat_sectors.specs.Gathered.{judged_as, marked_owner}
+use Rattle.fat_sectors.specs.Gathered.{judged_as, frees_at, marked_owner}
 use Rattle.fat_sectors.specs.declared.fat_sector.FatSector.{FatSector}
 
 module _ (x : FatWrite) (i : ℕ) (other : changed_at x i ≡ true) where
@@ -127,8 +128,30 @@ marked-by x rows m Fixed h = refl
 marked-by x rows m (Dyn j) h = marked (freed_by x) max_files 256 rows m j (h j refl)
 marked-by x rows m Free h = refl
 
-pub marked-owner : (x : FatWrite) (rows : List ℕ) → Marks (freed_by x) max_files 256 rows → length x.starts ≤ max_files → (i : ℕ)
-    → marked_owner rows (owner_at x i) ≡ freed_owner x (owner_at x i)
-marked-owner x rows m l i =
-    marked-by x rows m (owner_at x i)
-    (λ j e. let k = (owner-is x.starts x.sizes x.first (cluster_at x i) j e).row in omega arith)
+pub marked-owner : (x : FatWrite) (rows : List ℕ) → Marks (freed_by x) max_files 256 rows → length x.starts ≤ max_files → (c : ℕ)
+    → marked_owner rows (owner_of x.starts x.sizes x.first c) ≡ freed_owner x (owner_of x.starts x.sizes x.first c)
+marked-owner x rows m l c =
+    marked-by x rows m (owner_of x.starts x.sizes x.first c)
+    (λ j e. let k = (owner-is x.starts x.sizes x.first c j e).row in omega arith)
+
+-- where no entry frees a row, no owner's is freed
+module _ (x : FatWrite) (none : some (frees_at x) 256 0 ≡ false) where
+  is-some : (j : ℕ) (f : Option ℕ) → is_at j f ≡ true → not (is_nothing f) ≡ true
+  unfolding is_at is_nothing
+  is-some j (Some k) e = refl
+  is-some j None e = e
+
+  no-row : (j : ℕ) → frees_row x j ≡ false
+  unfolding frees_row picked_by frees_at
+  no-row j =
+      either (some (λ i. is_at j (freed_by x i)) 256 0)
+      (λ e. some-in (λ i. is_at j (freed_by x i)) 256 0 e
+      (λ k l h q. let y = some-at (frees_at x) 256 0 k l h (is-some j (freed_by x k) q) in absurd (false≢true (sym none ∙ y))))
+      (λ e. e)
+
+  pub none-freed : (o : Own) → freed_owner x o ≡ false
+  unfolding freed_owner
+  none-freed Reserved = refl
+  none-freed Fixed = refl
+  none-freed (Dyn j) = no-row j
+  none-freed Free = refl

@@ -1,29 +1,31 @@
 -- Laws of what is gathered of a sector's entries.
-use Rattle.std.specs.Prelude.{ℕ, zero, suc, ◌+◌, ◌<◌, ◌≤◌, Bool, true, false, not, ◌≡◌, refl, eqb, ltb, length, get_or, set, replicate, Some, None}
-use Rattle.std.proofs.Common.{sym, ◌∙◌, ap, arith, lt-ltb, eq-eqb, ne_eqb, eqb-true, get_or-set_other}
+use Rattle.std.specs.Prelude.{ℕ, zero, suc, ◌+◌, ◌<◌, ◌≤◌, Bool, true, false, not, ◌||◌, ◌≡◌, refl, eqb, ltb, length, get_or, set, replicate, Some, None}
+use Rattle.std.proofs.Common.{sym, ◌∙◌, ap, add-one, arith, lt-ltb, eq-eqb, ne_eqb, eqb-true, get_or-set_other}
 use Rattle.std.proofs.lemmas.Bool.{eqb-false}
 use Rattle.std.proofs.lemmas.List.{get_or-replicate, get_or_past, length-replicate}
 use borrow.Author.Tests.{ltb-true, ltb-false}
-use Rattle.loops.specs.Loops.{pick, count}
-use Rattle.loops.specs.Choices.{either}
+use Rattle.loops.specs.Loops.{pick, some, count}
+use Rattle.loops.specs.Choices.{either, or-r}
 use Rattle.loops.specs.Facts.{first-is, first-none, count-last, count-le}
-use Rattle.loops.specs.Marks.{marks-none, marks-keep, marks-put}
+use Rattle.loops.specs.Marks.{some-more, marks-none, marks-keep, marks-put}
 use Rattle.file_table.specs.Table.{max_files}
+use Rattle.clusters.specs.Clusters.{is_nothing}
 use Rattle.state.specs.Pairs.{free_pairs}
 use Rattle.fat_sectors.specs.Fat.{FatWrite, changed_at, refused_at, entry_number, needs_pair, freed_by, fat_number}
 use Rattle.fat_sectors.specs.FatLaws.{same-needs, same-frees}
-use Rattle.fat_sectors.specs.Gathered.{GatheredTo}
+use Rattle.fat_sectors.specs.Gathered.{frees_at, GatheredTo}
 use Rattle.fat_sectors.specs.declared.gathered.Gathered.{Gathered}
 use Rattle.fat_sectors.proofs.EntryLaws.{freed-zeroed}
 
 -- before the first entry
-pub gathered-start : (x : FatWrite) → GatheredTo x 0 (record { need = 0; rows = replicate max_files 0 })
-unfolding count
+pub gathered-start : (x : FatWrite) → GatheredTo x 0 (record { need = 0; any = false; rows = replicate max_files 0 })
+unfolding some count
 gathered-start x = record {
   taken = λ i h. absurd (omega arith);
   need = refl;
   marks = marks-none (freed_by x) max_files;
   zeroed = λ j e. absurd (none j e);
+  any = refl;
 }
   where
     read : (j : ℕ) → get_or (replicate {A = ℕ} max_files 0) j 0 ≡ 0
@@ -34,6 +36,10 @@ gathered-start x = record {
     none : (j : ℕ) → get_or (replicate {A = ℕ} max_files 0) j 0 ≡ 1 → ⊥
     none j e = omega (arith, e, read j)
 
+or-false : (b : Bool) → (b || false) ≡ b
+or-false true = refl
+or-false false = refl
+
 -- one entry more: it isn't refused
 module _ (x : FatWrite) (n : ℕ) (g : Gathered) (inv : GatheredTo x n g) (taken : entry_number x n ≡ 0) where
   more-taken : (i : ℕ) → i < n + 1 → entry_number x i ≡ 0
@@ -42,6 +48,13 @@ module _ (x : FatWrite) (n : ℕ) (g : Gathered) (inv : GatheredTo x n g) (taken
   more-need : (b : Bool) → needs_pair x n ≡ b → g.need + pick b 1 0 ≡ count (needs_pair x) (n + 1) 0
   more-need b e = let z : 0 + n ≡ n = omega arith in sym (count-last (needs_pair x) n 0 ∙ rw (z, e, inv.need))
 
+  more-any : some (frees_at x) (n + 1) 0 ≡ (g.any || frees_at x n)
+  more-any = let z : 0 + n ≡ n = omega arith in rw (add-one n, inv.any) (rw z at (some-more (frees_at x) n 0))
+
+  same-any : freed_by x n ≡ None → g.any ≡ some (frees_at x) (n + 1) 0
+  unfolding frees_at is_nothing
+  same-any f = sym (more-any ∙ rw f (or-false g.any))
+
   -- it does nothing
   pub gathered-passes : needs_pair x n ≡ false → freed_by x n ≡ None → GatheredTo x (n + 1) g
   gathered-passes e f = record {
@@ -49,26 +62,30 @@ module _ (x : FatWrite) (n : ℕ) (g : Gathered) (inv : GatheredTo x n g) (taken
     need = let z : g.need + 0 ≡ g.need = omega arith in sym z ∙ more-need false e;
     marks = marks-keep (freed_by x) max_files n g.rows inv.marks f;
     zeroed = inv.zeroed;
+    any = same-any f;
   }
 
   -- it needs a place
-  pub gathered-needs : needs_pair x n ≡ true → freed_by x n ≡ None → GatheredTo x (n + 1) (record { need = g.need + 1; rows = g.rows })
+  pub gathered-needs : needs_pair x n ≡ true → freed_by x n ≡ None → GatheredTo x (n + 1) (record { need = g.need + 1; any = g.any; rows = g.rows })
   gathered-needs e f = record {
     taken = more-taken;
     need = more-need true e;
     marks = marks-keep (freed_by x) max_files n g.rows inv.marks f;
     zeroed = inv.zeroed;
+    any = same-any f;
   }
 
   -- it frees row j
   pub gathered-frees : (j : ℕ) → j < length g.rows → needs_pair x n ≡ false → freed_by x n ≡ Some j
-      → GatheredTo x (n + 1) (record { need = g.need; rows = set g.rows j 1 })
+      → GatheredTo x (n + 1) (record { need = g.need; any = true; rows = set g.rows j 1 })
+  unfolding frees_at is_nothing
   gathered-frees j l e f = record {
     taken = more-taken;
     need = let z : g.need + 0 ≡ g.need = omega arith in sym z ∙ more-need false e;
     marks = marks-put (freed_by x) max_files n g.rows inv.marks j l f;
     zeroed = λ k q. either (eqb k j) (λ p. rw (eqb-true k j p) (freed-zeroed x n j taken f))
         (λ p. inv.zeroed k (sym (get_or-set_other g.rows j k 1 0 (eqb-false k j p)) ∙ q));
+    any = sym (more-any ∙ rw f (or-r g.any true refl));
   }
 
 -- an entry as shown does nothing

@@ -1,14 +1,15 @@
 // The entries of a written FAT sector that is taken put into the state.
 ghost use Rattle.std.specs.Prelude.{◌≡◌, true, ◌*◌, ◌<◌, map};
-ghost use Rattle.loops.specs.Loops.{fold};
+ghost use Rattle.loops.specs.Loops.{some, fold};
 ghost use Rattle.loops.specs.Marks.{Marks};
 ghost use Rattle.vdisk.specs.Owner.{owner_of};
 ghost use Rattle.file_table.specs.Table.{max_files};
 ghost use Rattle.file_table.specs.Files.{start_of, size_of};
-ghost use Rattle.fat_sectors.specs.Fat.{changed_at, freed_by, apply_at};
-ghost use Rattle.fat_sectors.specs.Gathered.{judged_as, marked_owner};
+ghost use Rattle.fat_sectors.specs.Fat.{changed_at, freed_by, freed_owner, apply_at};
+ghost use Rattle.fat_sectors.specs.Gathered.{judged_as, frees_at, marked_owner};
 
 use crate::fat_sector::FatSector;
+use crate::gathered::Gathered;
 use file_table::MAX_VF;
 use slots::dates::same_slot;
 use state::pairs::set_pair;
@@ -28,10 +29,23 @@ impl<'a> FatSector<'a> {
         }
     }
 
+    // Does the sector free the file of cluster `c`. One that frees none needs no search for the owner.
+    fn frees_owner(&self, gathered: &Gathered, c: u32) -> bool
+        requires marked { Marks (freed_by (judged_as self.now)) max_files 256 gathered.now.rows }
+        requires any { gathered.now.any ≡ some (frees_at (judged_as self.now)) 256 0 }
+        ensures { result ≡ freed_owner (judged_as self.now) (owner_of (map start_of self.now.files.rows.now) (map size_of self.now.files.rows.now) self.now.files.first c) }
+    {
+        if !gathered.any {
+            return false;
+        }
+        self.is_freed(&gathered.rows, c)
+    }
+
     // Changed entry `i`: FAT[1], or a pair. A file that the sector frees gets none.
-    fn apply_entry(&self, i: u32, rows: &[u8; MAX_VF], w: &mut W)
+    fn apply_entry(&self, i: u32, gathered: &Gathered, w: &mut W)
         requires changed { (i < 256) × (changed_at (judged_as self.now) i ≡ true) }
-        requires marked { Marks (freed_by (judged_as self.now)) max_files 256 rows.now }
+        requires marked { Marks (freed_by (judged_as self.now)) max_files 256 gathered.now.rows }
+        requires any { gathered.now.any ≡ some (frees_at (judged_as self.now)) 256 0 }
         ensures { w.new ≡ apply_at (judged_as self.now) i w.old }
     {
         let c = self.s * 256 + i;
@@ -40,28 +54,30 @@ impl<'a> FatSector<'a> {
             w.fat1 = v as u32 + 65536;
             return;
         }
-        if self.is_freed(rows, c) {
+        if self.frees_owner(gathered, c) {
             return;
         }
         set_pair(w, c as u16, v);
     }
 
     // The 16 entries of a block.
-    fn apply_block(&self, block: u32, rows: &[u8; MAX_VF], w: &mut W)
+    fn apply_block(&self, block: u32, gathered: &Gathered, w: &mut W)
         requires block { block < 16 }
-        requires marked { Marks (freed_by (judged_as self.now)) max_files 256 rows.now }
+        requires marked { Marks (freed_by (judged_as self.now)) max_files 256 gathered.now.rows }
+        requires any { gathered.now.any ≡ some (frees_at (judged_as self.now)) 256 0 }
         ensures { w.new ≡ fold (apply_at (judged_as self.now)) 16 (block * 16) w.old }
     {
         for i in block * 16..block * 16 + 16 {
             if self.is_changed(i) {
-                self.apply_entry(i, rows, w);
+                self.apply_entry(i, gathered, w);
             }
         }
     }
 
     // All entries, by blocks as they are gathered.
-    pub(crate) fn apply(&self, rows: &[u8; MAX_VF], w: &mut W)
-        requires { Marks (freed_by (judged_as self.now)) max_files 256 rows.now }
+    pub(crate) fn apply(&self, gathered: &Gathered, w: &mut W)
+        requires marked { Marks (freed_by (judged_as self.now)) max_files 256 gathered.now.rows }
+        requires any { gathered.now.any ≡ some (frees_at (judged_as self.now)) 256 0 }
         ensures { w.new ≡ fold (apply_at (judged_as self.now)) 256 0 w.old }
     {
         let shown = self.sectors.shown;
@@ -70,7 +86,7 @@ impl<'a> FatSector<'a> {
             if same_slot(shown, written, block as usize * 32) {
                 continue;
             }
-            self.apply_block(block, rows, w);
+            self.apply_block(block, gathered, w);
         }
     }
 }

@@ -11,10 +11,11 @@ use refusals::Refusal;
 use slots::dates::same_slot;
 use state::pairs::free_pairs;
 
-// How many entries need a place for a pair, and 1 at each row that an entry frees.
+// How many entries need a place for a pair, whether one frees a row, and 1 at each row that an entry frees.
 #[derive(Clone, Copy)]
 pub(crate) struct Gathered {
     pub need: usize,
+    pub any: bool,
     pub rows: [u8; MAX_VF],
 }
 
@@ -36,6 +37,7 @@ impl<'a> FatSector<'a> {
                 }
                 Entry::Frees(j) => {
                     gathered.rows[j] = 1;
+                    gathered.any = true;
                 }
             }
         }
@@ -50,6 +52,7 @@ impl<'a> FatSector<'a> {
         let written = self.sectors.written;
         let mut gathered = Gathered {
             need: 0,
+            any: false,
             rows: [0u8; MAX_VF],
         };
         for block in 0..16 {

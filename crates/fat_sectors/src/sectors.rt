@@ -86,7 +86,7 @@ pub fn fat(w: &mut W, files: &mut [VF], s: u32, sectors: Sectors) -> Result<(), 
         sectors,
     };
     let gathered = sector.gather()?;
-    sector.apply(&gathered.rows, w);
+    sector.apply(&gathered, w);
     mark_freed(files, &gathered.rows);
     Ok(())
 }

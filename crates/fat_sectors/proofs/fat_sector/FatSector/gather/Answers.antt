@@ -28,4 +28,4 @@ pub returns : goal.returns
 returns c =
     let e : c.loop-block.block * 16 ≡ 256 = omega arith in
     let a = gathered-all (judged_as c.args.self.now) c.loop-block.gathered (rw e at c.loop-block.invariant) in
-    (a ∙ rw (← c.free_pairs.ensures, le-ltb _ _ c.if-free_pairs-gathered.false), rw e at c.loop-block.invariant.marks)
+    (a ∙ rw (← c.free_pairs.ensures, le-ltb _ _ c.if-free_pairs-gathered.false), rw e at c.loop-block.invariant.marks, rw e at c.loop-block.invariant.any)
