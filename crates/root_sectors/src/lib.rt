@@ -15,7 +15,30 @@ use file_table::VF;
 use file_table::owner::Files;
 use refusals::Refusal;
 use sector::Sectors;
+use slots::dates::same_slot;
 use state::w::W;
+
+// So many changed slots at most are looked up row by row.
+const FEW_SLOTS: u32 = 2;
+
+// The table as it is searched for the changed slots: row by row for a few, since telling whether the starts rise looks at every row.
+fn table_for<'a>(files: &'a [VF], first: u32, sectors: Sectors) -> Files<'a>
+    ensures same_rows { result.rows.now ≡ files.now }
+    ensures same_first { result.first ≡ first }
+{
+    let shown = sectors.shown;
+    let written = sectors.written;
+    let mut changed = 0;
+    for i in 0..16 {
+        if !same_slot(shown, written, i * 32) {
+            changed += 1;
+        }
+    }
+    if changed <= FEW_SLOTS {
+        return Files::by_rows(files, first);
+    }
+    Files::new(files, first)
+}
 
 // A written root sector: the records of its host slots, where it is taken. Told is whether that opens the session.
 pub fn root(w: &mut W, files: &[VF], s: u32, sectors: Sectors) -> Result<bool, Refusal>
@@ -25,7 +48,7 @@ pub fn root(w: &mut W, files: &[VF], s: u32, sectors: Sectors) -> Result<bool, R
     ensures state { w.new ≡ root_state (root_in files.now w.old s sectors.entry.shown.now sectors.entry.written.now) w.old }
 {
     let root = RootSector {
-        files: Files::by_rows(files, w.first),
+        files: table_for(files, w.first, sectors),
         pair: &w.pair,
         rec: &w.rec,
         s,

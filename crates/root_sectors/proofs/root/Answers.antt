@@ -12,7 +12,7 @@ pub returns-in_err-judge : goal.returns-in_err-judge
 unfolding root_changed root_state
 returns-in_err-judge c =
     let a = c.args in
-    let b = c.by_rows.ensures in
+    let b = c.table_for.ensures in
     let x = root_in a.files.now a.w.now a.s a.sectors.shown.now a.sectors.written.now in
     let n : number_of c.in_err-judge.field-0.0 ≡ root_number x = rw (b.same_rows, b.same_first) at c.in_err-judge.ensures in
     let e : eqb (root_number x) 0 ≡ false = rw (← n) (number-not-0 _) in
@@ -23,7 +23,7 @@ pub returns : goal.returns
 unfolding root_changed root_records kept_at with_rec
 returns c =
     let a = c.args in
-    let b = c.by_rows.ensures in
+    let b = c.table_for.ensures in
     let x = root_in a.files.now a.w.now a.s a.sectors.shown.now a.sectors.written.now in
     let n : 0 ≡ root_number x = rw (b.same_rows, b.same_first) at c.in_ok-judge.ensures in
     let k = c.keep_slots.ensures in
