@@ -1,8 +1,9 @@
 -- Laws of a written FAT sector.
-use Rattle.std.specs.Prelude.{ℕ, ◌+◌, ◌-◌, ◌*◌, ◌<◌, ◌≤◌, min, max, Bool, false, ◌&&◌, ◌||◌, List, leb, length, Some, None}
+use Rattle.std.specs.Prelude.{ℕ, ◌+◌, ◌-◌, ◌*◌, ◌<◌, ◌≤◌, min, max, Bool, false, ◌&&◌, ◌||◌, List, leb, length, Option, Some, None}
 use Rattle.std.proofs.Math.Bool.{true, not}
-use Rattle.std.proofs.Math.Path.{◌≡◌}
+use Rattle.std.proofs.Math.Path.{◌≡◌, refl}
 use Rattle.std.proofs.Common.{ap}
+use Rattle.std.proofs.lemmas.Bool.{false≢true}
 use native.Mathlib.Omega.{arith}
 use Rattle.std.proofs.Math.Dec.{ltb, eqb}
 use Rattle.std.proofs.Math.ListN.{get_or}
@@ -19,10 +20,10 @@ use Rattle.vdisk.specs.OwnerLaws.{owner-is}
 use Rattle.vdisk.specs.declared.owner.Own.{Own}
 use Rattle.vdisk.specs.declared.owner.Own.TheVariants.{Reserved, Fixed, Dyn, Free}
 use Rattle.file_table.specs.Table.{in_file, max_files}
-use Rattle.state.specs.Pairs.{set_pair}
+use Rattle.state.specs.Pairs.{pair_idx, set_at, set_pair}
 use Rattle.state.specs.Setters.{with_fat1}
 use Rattle.state.specs.declared.w.W.{W}
-use Rattle.clusters.specs.Clusters.{is_live}
+use Rattle.clusters.specs.Clusters.{is_nothing, is_live}
 use Rattle.fat_sectors.specs.Fat.{FatWrite, cluster_at, value_at, changed_at, zeroed_at, zeroes_file, owner_at, needs_pair}
 use Rattle.fat_sectors.specs.Fat.{freed_own, freed_by, frees_row, freed_owner, free_id, apply_at}
 
@@ -111,6 +112,15 @@ freed-ids x rows m l =
     rows-same (λ j id. pick (eqb (get_or rows j 0) 1) (set_bit id 13) id) (free_id x) x.ids
     (λ j id h. ap (λ (b : Bool). pick b (set_bit id 13) id) (marked (freed_by x) max_files 256 rows m j (omega arith)))
 
+set-none : (w : W) (c : ℕ) (f : Option ℕ) → is_nothing f ≡ true → set_at w c 0 f ≡ w
+unfolding set_at is_nothing
+set-none w c (Some k) e = absurd (false≢true e)
+set-none w c None e = refl
+
+pick-same : (b : Bool) (w : W) → pick b w w ≡ w
+pick-same true w = refl
+pick-same false w = refl
+
 -- an entry as shown changes nothing
 module _ (x : FatWrite) (i : ℕ) (w : W) where
   pub unchanged-entry : changed_at x i ≡ false → apply_at x i w ≡ w
@@ -122,6 +132,11 @@ module _ (x : FatWrite) (i : ℕ) (w : W) where
     pub fat1-entry : cluster_at x i ≡ 1 → apply_at x i w ≡ with_fat1 w (value_at x i + 65536)
     unfolding apply_at
     fat1-entry e = rw (changed, eq-eqb (cluster_at x i) 1 e)
+
+    -- 0 for a cluster that has no pair sets nothing, whoever owns it
+    pub nothing-entry : (cluster_at x i ≡ 1 → ⊥) → value_at x i ≡ 0 → is_nothing (pair_idx w.pair (cluster_at x i)) ≡ true → apply_at x i w ≡ w
+    unfolding apply_at set_pair
+    nothing-entry h v p = rw (changed, ne_eqb (cluster_at x i) 1 h, v, set-none w (cluster_at x i) (pair_idx w.pair (cluster_at x i)) p) (pick-same (freed_owner x (owner_at x i)) w)
 
     pub freed-entry : (cluster_at x i ≡ 1 → ⊥) → freed_owner x (owner_at x i) ≡ true → apply_at x i w ≡ w
     unfolding apply_at

@@ -1,10 +1,12 @@
 // The entries of a written FAT sector that is taken put into the state.
-ghost use Rattle.std.specs.Prelude.{◌≡◌, true, ◌*◌, ◌<◌, map};
+ghost use Rattle.std.specs.Prelude.{◌≡◌, true, ◌&&◌, ◌*◌, ◌<◌, eqb, map};
 ghost use Rattle.loops.specs.Loops.{some, fold};
 ghost use Rattle.loops.specs.Marks.{Marks};
 ghost use Rattle.vdisk.specs.Owner.{owner_of};
 ghost use Rattle.file_table.specs.Table.{max_files};
 ghost use Rattle.file_table.specs.Files.{start_of, size_of};
+ghost use Rattle.state.specs.Pairs.{pair_idx};
+ghost use Rattle.clusters.specs.Clusters.{is_nothing};
 ghost use Rattle.fat_sectors.specs.Fat.{changed_at, freed_by, freed_owner, apply_at};
 ghost use Rattle.fat_sectors.specs.Gathered.{judged_as, frees_at, marked_owner};
 
@@ -12,9 +14,22 @@ use crate::fat_sector::FatSector;
 use crate::gathered::Gathered;
 use file_table::MAX_VF;
 use slots::dates::same_slot;
-use state::pairs::set_pair;
-use state::w::W;
+use state::pairs::{pair_idx, set_pair};
+use state::w::{NPAIR, Pair, W};
 use vdisk::owner::Own;
+
+// Is 0 written for a cluster without a pair: that sets nothing, whoever owns it. Only asked where a file is freed, to spare the search for the owner.
+fn sets_nothing(gathered: &Gathered, pair: &[Pair; NPAIR], c: u32, v: u16) -> bool
+    ensures { result ≡ (gathered.now.any && eqb v 0 && is_nothing (pair_idx pair.now c)) }
+{
+    if !gathered.any {
+        return false;
+    }
+    if v != 0 {
+        return false;
+    }
+    pair_idx(pair, c).is_none()
+}
 
 impl<'a> FatSector<'a> {
     // Is cluster `c` one of a file whose row is marked 1.
@@ -52,6 +67,9 @@ impl<'a> FatSector<'a> {
         let v = self.value(i);
         if c == 1 {
             w.fat1 = v as u32 + 65536;
+            return;
+        }
+        if sets_nothing(gathered, &w.pair, c, v) {
             return;
         }
         if self.frees_owner(gathered, c) {
