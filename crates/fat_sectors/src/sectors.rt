@@ -12,7 +12,8 @@ use crate::fat_sector::FatSector;
 use file_table::owner::Files;
 use file_table::{MAX_VF, VF};
 use refusals::Refusal;
-use sector::{Sector, Sectors};
+use sector::{Sector, Sectors, le16};
+use slots::dates::same_slot;
 use state::w::W;
 use vdisk::ids::FREED;
 
@@ -52,11 +53,57 @@ fn differing_from(shown: &Sector, written: &Sector, at: usize) -> u8
     differing
 }
 
-// The table as it is searched for the entries of a sector: row by row for a few, since telling whether the starts rise looks at every row.
-fn table_for<'a>(files: &'a [VF], first: u32, sectors: Sectors) -> Files<'a>
+// The first entry of a block that differs, 16 where none does.
+fn first_differing(shown: &Sector, written: &Sector, block: usize) -> u32
+    requires { block < 16 }
+    ensures { result ≤ 16 }
+{
+    for i in 0..16 {
+        let at = block * 32 + i * 2;
+        if le16(shown, at) != le16(written, at) {
+            return i as u32;
+        }
+    }
+    16
+}
+
+// Does the first changed entry lie before the first session cluster: the sector is refused for it, without a search.
+fn starts_fixed(first: u32, s: u32, sectors: Sectors) -> bool
+    requires { s < 254 }
+{
+    if first <= s * 256 {
+        return false;
+    }
+    let shown = sectors.shown;
+    let written = sectors.written;
+    for block in 0..16 {
+        if !same_slot(shown, written, block * 32) {
+            return s * 256 + block as u32 * 16 + first_differing(shown, written, block) < first;
+        }
+    }
+    false
+}
+
+// Does a search from the last row end there for each entry of the sector.
+fn is_past(files: &[VF], s: u32) -> bool
+    requires { s < 254 }
+{
+    match files.last() {
+        Some(last) => last.vstart as u32 <= s * 256,
+        None => true,
+    }
+}
+
+// The table as it is searched for the entries of a sector: row by row for a few, and where no search is made or each ends at once, since telling whether the starts rise looks at
+// every row.
+fn table_for<'a>(files: &'a [VF], first: u32, s: u32, sectors: Sectors) -> Files<'a>
+    requires { s < 254 }
     ensures same_rows { result.rows.now ≡ files.now }
     ensures same_first { result.first ≡ first }
 {
+    if is_past(files, s) || starts_fixed(first, s, sectors) {
+        return Files::by_rows(files, first);
+    }
     let shown = sectors.shown;
     let written = sectors.written;
     let mut differing = 0u16;
@@ -78,7 +125,7 @@ pub fn fat(w: &mut W, files: &mut [VF], s: u32, sectors: Sectors) -> Result<(), 
 {
     // The pairs as they are before the sector is applied: those tell which files are live.
     let pair = w.pair;
-    let table = table_for(files, w.first, sectors);
+    let table = table_for(files, w.first, s, sectors);
     let sector = FatSector {
         files: table,
         pair: &pair,

@@ -21,20 +21,28 @@ use state::w::W;
 // So many changed slots at most are looked up row by row.
 const FEW_SLOTS: u32 = 2;
 
-// The table as it is searched for the changed slots: row by row for a few, since telling whether the starts rise looks at every row.
+// The table as it is searched for the changed slots: row by row for a few, not counting those past the last file's start, whose search ends at the last row. Telling whether
+// the starts rise looks at every row.
 fn table_for<'a>(files: &'a [VF], first: u32, sectors: Sectors) -> Files<'a>
     ensures same_rows { result.rows.now ≡ files.now }
     ensures same_first { result.first ≡ first }
 {
     let shown = sectors.shown;
     let written = sectors.written;
-    let mut changed = 0;
+    let last_start = match files.last() {
+        Some(last) => last.vstart,
+        None => 0,
+    };
+    let mut early = 0;
     for i in 0..16 {
-        if !same_slot(shown, written, i * 32) {
-            changed += 1;
+        if same_slot(shown, written, i * 32) {
+            continue;
+        }
+        if slots::fields::start(written, i * 32) < last_start {
+            early += 1;
         }
     }
-    if changed <= FEW_SLOTS {
+    if early <= FEW_SLOTS {
         return Files::by_rows(files, first);
     }
     Files::new(files, first)
