@@ -1,5 +1,5 @@
 -- What the code of a directory sector gathers.
-use Rattle.std.specs.Prelude.{ℕ, ◌≤◌, List, ◌≡◌, eqb, get_or, Result, Ok, Err}
+use Rattle.std.specs.Prelude.{ℕ, ◌<◌, ◌≤◌, List, ◌≡◌, eqb, get_or, Result, Ok, Err}
 use Rattle.loops.specs.Loops.{pick, some}
 use Rattle.loops.specs.Marks.{Marks}
 use Rattle.file_table.specs.Table.{max_files}
@@ -11,7 +11,10 @@ use Rattle.refusals.specs.declared.Refusal.{Refusal}
 use Rattle.dir_sectors.specs.Dir.{DirWrite, turned_by, is_found, dir_number}
 use Rattle.dir_sectors.specs.declared.marks.Turns.{Turns}
 
--- no row is marked from `end` on
+-- no row is marked before `from`, nor from `end` on
+abbrev pub Begins : List ℕ → ℕ → Type 0
+Begins rows from = (k : ℕ) → k < from → get_or rows k 0 ≡ 0
+
 abbrev pub Ends : List ℕ → ℕ → Type 0
 Ends rows end = (k : ℕ) → end ≤ k → get_or rows k 0 ≡ 0
 
@@ -20,6 +23,7 @@ pub record Turned (x : DirWrite) (t : Turns) : Type 0 where
   pub taken : dir_number x ≡ 0
   pub some-turn : t.any ≡ some (λ i. is_found (turned_by x i)) 16 0
   pub marks : Marks (turned_by x) max_files 16 t.rows
+  pub begins : Begins t.rows t.from
   pub ends : Ends t.rows t.end
 
 -- a sector that is refused

@@ -38,6 +38,6 @@ pub fn dir(
         return Ok(false);
     }
     let rows = turns.rows;
-    mark_rows(files, &rows, turns.end, fat, area, st);
+    mark_rows(files, &rows, turns.from, turns.end, fat, area, st);
     Ok(true)
 }

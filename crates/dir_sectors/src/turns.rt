@@ -62,6 +62,7 @@ pub(crate) fn slot_turns(files: &[VF], k: u16, s: u32, sectors: Sectors) -> Resu
     let written = sectors.written;
     let mut rows = [0u8; MAX_VF];
     let mut any = false;
+    let mut from = MAX_VF;
     let mut end = 0usize;
     for i in 0..16 {
         if same_slot(shown, written, i as usize * 32) {
@@ -75,7 +76,13 @@ pub(crate) fn slot_turns(files: &[VF], k: u16, s: u32, sectors: Sectors) -> Resu
         };
         rows[j] = 1;
         any = true;
+        from = from.min(j);
         end = end.max(j + 1);
     }
-    Ok(Turns { any, end, rows })
+    Ok(Turns {
+        any,
+        from,
+        end,
+        rows,
+    })
 }

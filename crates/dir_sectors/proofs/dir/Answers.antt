@@ -33,7 +33,7 @@ returns-then-not-turns c =
     }
 
 pub mark_rows-requires : goal.mark_rows-requires
-mark_rows-requires c = (c.requires.0, c.in_ok-turns.ensures.ends)
+mark_rows-requires c = (c.requires.0, c.in_ok-turns.ensures.begins, c.in_ok-turns.ensures.ends)
 
 pub returns : goal.returns
 unfolding dir_changed dir_ids

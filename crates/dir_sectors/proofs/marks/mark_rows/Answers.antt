@@ -8,11 +8,11 @@ use Rattle.loops.specs.Rows.{rows}
 use Rattle.bits.specs.Bit.{set_bit}
 use Rattle.file_table.specs.Files.{id_of, start_of, size_of, with_ids}
 use Rattle.file_table.specs.declared.VF.{VF}
-use Rattle.file_table.proofs.FileRows.{column-at, files-start, files-read, files-more}
+use Rattle.file_table.proofs.FileRows.{column-at, files-read, files-more}
 use Rattle.state.specs.declared.w.St.{St}
 use Rattle.medium.specs.Reads.{moved_ref}
 use Rattle.dir_sectors.specs.Turned.{mark_id}
-use Rattle.dir_sectors.proofs.MarkLaws.{rows-past}
+use Rattle.dir_sectors.proofs.MarkLaws.{rows-before, rows-past}
 use native.Mathlib.Omega.{arith}
 use Rattle.dir_sectors.proofs.marks.mark_rows.Goals as goal
 
@@ -30,8 +30,17 @@ marked marks fat area st fs gs j d v inv l e =
     let b : get_or (map size_of fs) j 0 ≡ (get_or gs j d).vsize = column-at size_of fs j d l ∙ ap size_of (sym r) in
     rw (a, b) e
 
+-- a row that isn't marked stays
+unmarked : (marks starts sizes fat area : List ℕ) (st : List St) (j id : ℕ) → get_or marks j 0 ≡ 0 → mark_id marks starts sizes fat area st j id ≡ id
+unfolding mark_id
+unmarked marks starts sizes fat area st j id e = rw e
+
 pub loop-j-init : goal.loop-j-init
-loop-j-init c = files-start (mark_id c.args.rows.now (map start_of c.args.files.now) (map size_of c.args.files.now) c.args.fat.now c.args.area.now c.args.st.now) c.args.files.now
+loop-j-init c =
+    let a = c.args in
+    let f = mark_id a.rows.now (map start_of a.files.now) (map size_of a.files.now) a.fat.now a.area.now a.st.now in
+    rows-before f a.files.now a.from
+    (λ j id l. unmarked a.rows.now (map start_of a.files.now) (map size_of a.files.now) a.fat.now a.area.now a.st.now j id (c.requires.1 j l))
 
 pub loop-j-preserved : goal.loop-j-preserved
 loop-j-preserved c =
@@ -40,14 +49,9 @@ loop-j-preserved c =
     let f = mark_id a.rows.now (map start_of a.files.now) (map size_of a.files.now) a.fat.now a.area.now a.st.now in
     files-more f a.files.now l.files l.j l.invariant _ _ (marked a.rows.now a.fat.now a.area.now a.st.now a.files.now l.files l.j _ _ l.invariant (omega arith) c.turned_id.ensures) (omega arith)
 
--- a row that isn't marked stays
-unmarked : (marks starts sizes fat area : List ℕ) (st : List St) (j id : ℕ) → get_or marks j 0 ≡ 0 → mark_id marks starts sizes fat area st j id ≡ id
-unfolding mark_id
-unmarked marks starts sizes fat area st j id e = rw e
-
 pub returns : goal.returns
 returns c =
     let a = c.args in
     let f = mark_id a.rows.now (map start_of a.files.now) (map size_of a.files.now) a.fat.now a.area.now a.st.now in
     rows-past f a.files.now c.loop-j.files c.loop-j.j c.loop-j.invariant
-    (λ j id l h. unmarked a.rows.now (map start_of a.files.now) (map size_of a.files.now) a.fat.now a.area.now a.st.now j id (c.requires.1 j (omega arith)))
+    (λ j id l h. unmarked a.rows.now (map start_of a.files.now) (map size_of a.files.now) a.fat.now a.area.now a.st.now j id (c.requires.2 j (omega arith)))

@@ -9,12 +9,12 @@ use Rattle.file_table.specs.Files.{id_of}
 use Rattle.file_table.specs.Table.{max_files}
 use Rattle.dir_sectors.specs.Dir.{is_found, dir_number}
 use Rattle.dir_sectors.specs.DirLaws.{turn-passes, dates-pass, turned_by-lt, same-turns-none, same-passes}
-use Rattle.dir_sectors.proofs.MarkLaws.{ends-none, ends-put}
+use Rattle.dir_sectors.proofs.MarkLaws.{begins-none, begins-put, ends-none, ends-put}
 use native.Mathlib.Omega.{arith}
 use Rattle.dir_sectors.proofs.turns.slot_turns.Goals as goal
 
 pub loop-i-init : goal.loop-i-init
-loop-i-init c = (length-replicate {A = ℕ} max_files 0, marks-none _ max_files, all-start _ _, ends-none max_files, sought-start _ _)
+loop-i-init c = (length-replicate {A = ℕ} max_files 0, marks-none _ max_files, all-start _ _, begins-none max_files, ends-none max_files, sought-start _ _)
 
 pub loop-i-preserved-then-same_slot : goal.loop-i-preserved-then-same_slot
 unfolding is_found
@@ -23,7 +23,7 @@ loop-i-preserved-then-same_slot c =
     let h = c.loop-i-test.true in
     let q = sym c.same_slot.ensures ∙ c.if-same_slot.true in
     let e = same-turns-none _ _ q in
-    (v.0, marks-keep _ _ _ _ v.1 e, all-go _ _ _ _ v.2 h (same-passes _ _ q), v.3, sought-on _ _ _ _ _ v.4 h (rw e))
+    (v.0, marks-keep _ _ _ _ v.1 e, all-go _ _ _ _ v.2 h (same-passes _ _ q), v.3, v.4, sought-on _ _ _ _ _ v.5 h (rw e))
 
 pub turned_by-requires : goal.turned_by-requires
 turned_by-requires c = (c.requires.1, c.loop-i-test.true)
@@ -47,7 +47,7 @@ loop-i-preserved-in_default c =
     let v = c.loop-i.invariant in
     let h = c.loop-i-test.true in
     let e = sym c.turned_by.ensures ∙ c.in_default.is in
-    (v.0, marks-keep _ _ _ _ v.1 e, all-go _ _ _ _ v.2 h (dates-pass _ _ e ∙ sym c.dates_only.ensures ∙ c.if-not-dates_only.false), v.3, sought-on _ _ _ _ _ v.4 h (rw e))
+    (v.0, marks-keep _ _ _ _ v.1 e, all-go _ _ _ _ v.2 h (dates-pass _ _ e ∙ sym c.dates_only.ensures ∙ c.if-not-dates_only.false), v.3, v.4, sought-on _ _ _ _ _ v.5 h (rw e))
 
 pub loop-i-preserved : goal.loop-i-preserved
 unfolding is_found
@@ -59,8 +59,9 @@ loop-i-preserved c =
       simp length-set v.0,
       marks-put _ _ _ _ v.1 _ (omega (arith, l, length-map c.args.files.now id_of, c.requires.0, v.0)) e,
       all-go _ _ _ _ v.2 h (turn-passes _ _ _ e),
-      ends-put _ _ _ _ v.3 (omega (arith, c.max-end.ensures)) (omega (arith, c.max-end.ensures)),
-      sought-here _ _ _ _ _ v.4 h (rw e),
+      begins-put _ _ _ _ v.3 (omega (arith, c.min-from.ensures)) (omega (arith, c.min-from.ensures)),
+      ends-put _ _ _ _ v.4 (omega (arith, c.max-end.ensures)) (omega (arith, c.max-end.ensures)),
+      sought-here _ _ _ _ _ v.5 h (rw e),
     )
 
 pub returns : goal.returns
@@ -68,4 +69,4 @@ unfolding dir_number
 returns c =
     let e : c.loop-i.i ≡ 16 = omega arith in
     let a = all-end _ _ _ _ c.loop-i.invariant.2 c.loop-i-test.false in
-    record { taken = rw (← a); some-turn = sought-end _ _ _ _ _ c.loop-i.invariant.4 c.loop-i-test.false; marks = rw e at c.loop-i.invariant.1; ends = c.loop-i.invariant.3 }
+    record { taken = rw (← a); some-turn = sought-end _ _ _ _ _ c.loop-i.invariant.5 c.loop-i-test.false; marks = rw e at c.loop-i.invariant.1; begins = c.loop-i.invariant.3; ends = c.loop-i.invariant.4 }

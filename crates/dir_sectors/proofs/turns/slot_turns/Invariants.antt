@@ -6,7 +6,7 @@ use Rattle.loops.specs.Sought.{sought}
 use Rattle.loops.specs.Marks.{Marks}
 use Rattle.file_table.specs.Table.{max_files}
 use Rattle.dir_sectors.specs.Dir.{dir_in, turned_by, is_found, slot_passes}
-use Rattle.dir_sectors.specs.Turned.{Ends}
+use Rattle.dir_sectors.specs.Turned.{Begins, Ends}
 use Rattle.dir_sectors.proofs.turns.slot_turns.Given as goal
 
 abbrev pub invariant-loop-i : goal.invariant-loop-i
@@ -15,5 +15,6 @@ invariant-loop-i l =
     (length l.rows ≡ max_files)
     × Marks (turned_by x) max_files l.i l.rows
     × (all (slot_passes x) 16 0 ≡ all (slot_passes x) (16 - l.i) l.i)
+    × Begins l.rows l.from
     × Ends l.rows l.end
     × (some (λ n. is_found (turned_by x n)) 16 0 ≡ sought (λ n. is_found (turned_by x n)) 16 l.i l.any)
