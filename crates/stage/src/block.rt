@@ -34,7 +34,7 @@ pub fn held_inside(slot: &St, s: u32, fat: &[u16], area: &[u8]) -> bool
 }
 
 // Zeros of a block that is not held take no block.
-pub fn takes_none(slot: &St, s: u32, written: &Sector) -> bool
+pub fn takes_none(slot: &St, s: u32, written: &[u8]) -> bool
     requires { s < 64 }
     ensures { result ≡ (eqb (held_for slot.now s) 0 && zeros written.now) }
 {
