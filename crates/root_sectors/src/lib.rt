@@ -21,8 +21,8 @@ use state::w::W;
 // So many changed slots at most are looked up row by row.
 const FEW_SLOTS: u32 = 2;
 
-// The table as it is searched for the changed slots: row by row for a few, not counting those past the last file's start, whose search ends at the last row. Telling whether
-// the starts rise looks at every row.
+// The table as it is searched for the changed slots: row by row for a few, not counting those without a start, which need no search, and those past the last file's start, whose
+// search ends at the last row. Telling whether the starts rise looks at every row.
 fn table_for<'a>(files: &'a [VF], first: u32, sectors: Sectors) -> Files<'a>
     ensures same_rows { result.rows.now ≡ files.now }
     ensures same_first { result.first ≡ first }
@@ -38,7 +38,8 @@ fn table_for<'a>(files: &'a [VF], first: u32, sectors: Sectors) -> Files<'a>
         if same_slot(shown, written, i * 32) {
             continue;
         }
-        if slots::fields::start(written, i * 32) < last_start {
+        let start = slots::fields::start(written, i * 32);
+        if start != 0 && start < last_start {
             early += 1;
         }
     }
