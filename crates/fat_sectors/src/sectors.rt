@@ -67,7 +67,7 @@ fn first_differing(shown: &Sector, written: &Sector, block: usize) -> u32
     16
 }
 
-// Does the first changed entry lie before the first session cluster: the sector is refused for it, without a search.
+// Does the first changed entry lie before the first session cluster: the sector is refused for it, without a search. FAT[1] may be taken, and others after it.
 fn starts_fixed(first: u32, s: u32, sectors: Sectors) -> bool
     requires { s < 254 }
 {
@@ -78,7 +78,8 @@ fn starts_fixed(first: u32, s: u32, sectors: Sectors) -> bool
     let written = sectors.written;
     for block in 0..16 {
         if !same_slot(shown, written, block * 32) {
-            return s * 256 + block as u32 * 16 + first_differing(shown, written, block) < first;
+            let c = s * 256 + block as u32 * 16 + first_differing(shown, written, block);
+            return c != 1 && c < first;
         }
     }
     false
