@@ -18,7 +18,7 @@ use state::w::W;
 use vdisk::ids::FREED;
 
 // So many bytes of a sector differ at most where few entries do.
-const FEW_BYTES: u16 = 8;
+const FEW_BYTES: u16 = 4;
 
 fn freed_id(mark: u8, id: u16) -> u16
     ensures { result ≡ pick (eqb mark 1) (set_bit id 13) id }
