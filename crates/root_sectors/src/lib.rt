@@ -21,6 +21,9 @@ use state::w::W;
 // So many changed slots at most are looked up row by row.
 const FEW_SLOTS: u32 = 2;
 
+// A table of fewer files is searched row by row for all slots.
+const FEW_FILES: usize = 64;
+
 // The table as it is searched for the changed slots: row by row for a few, not counting those without a start, which need no search, and those past the last file's start, whose
 // search ends at the last row. Telling whether the starts rise looks at every row.
 fn table_for<'a>(files: &'a [VF], first: u32, sectors: Sectors) -> Files<'a>
@@ -34,7 +37,9 @@ fn table_for<'a>(files: &'a [VF], first: u32, sectors: Sectors) -> Files<'a>
         None => 0,
     };
     let mut early = 0;
-    for i in 0..16 {
+    // A short table is no work to search.
+    let slots = if files.len() < FEW_FILES { 0 } else { 16 };
+    for i in 0..slots {
         if same_slot(shown, written, i * 32) {
             continue;
         }
